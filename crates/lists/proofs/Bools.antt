@@ -1,0 +1,21 @@
+-- Case analysis on a test, and what a compound test says of its parts. Assumes nothing.
+use mathlib.Core.Bool.{Bool, true, false, _&&_, _||_, cond, false≢true}
+use mathlib.Core.Path.{_≡_, refl}
+use Rattle.lists.specs.Tests.{implies}
+
+-- what is to be shown of a choice is shown of both sides
+pub by-cond {ℓ} : {A : Type ℓ} (P : A → Type 0) (b : Bool) {x y : A} → (b ≡ true → P x) → (b ≡ false → P y) → P (cond b x y)
+by-cond P true h k = h refl
+by-cond P false h k = k refl
+
+pub both : (a b : Bool) → (a && b) ≡ true → (a ≡ true) × (b ≡ true)
+both true b h = (refl, h)
+both false b h = absurd (false≢true h)
+
+pub implied : (a b : Bool) → implies a b ≡ true → a ≡ true → b ≡ true
+implied true b h e = h
+implied false b h e = absurd (false≢true e)
+
+pub imply : (a b : Bool) → (a ≡ true → b ≡ true) → implies a b ≡ true
+imply true b f = f refl
+imply false b f = refl

@@ -1,0 +1,53 @@
+-- Counts: of a weaker test, of an image, of a store. Assumes nothing.
+use Prim.Native.Nat.{ℕ, zero, suc, _+_, _<_, _≤_}
+use mathlib.Core.Bool.{Bool, true, false, cond, false≢true}
+use mathlib.Core.List.{List, [], _∷_, map}
+use mathlib.Core.Path.{_≡_, refl, ap}
+use native.Mathlib.Omega.{arith}
+use lib.ListN.{length, getD, set, replicate}
+use Rattle.lists.specs.Tests.{count}
+
+-- at most one more where the second test holds too
+one-le : (a b : Bool) (m n : ℕ) → (a ≡ true → b ≡ true) → m ≤ n → cond a 1 0 + m ≤ cond b 1 0 + n
+one-le true true m n f h = omega arith
+one-le true false m n f h = absurd (false≢true (f refl))
+one-le false true m n f h = omega arith
+one-le false false m n f h = omega arith
+
+pub count-mono : {A : Type 0} (f g : A → Bool) (l : List A) → ((a : A) → f a ≡ true → g a ≡ true) → count f l ≤ count g l
+count-mono f g [] h = omega arith
+count-mono f g (x ∷ xs) h = one-le (f x) (g x) (count f xs) (count g xs) (h x) (count-mono f g xs h)
+
+pub count-map : {A B : Type 0} (f : B → Bool) (g : A → B) (l : List A) → count f (map g l) ≡ count (λ a. f (g a)) l
+count-map f g [] = refl
+count-map f g (x ∷ xs) = ap (λ n. cond (f (g x)) 1 0 + n) (count-map f g xs)
+
+pub count-replicate : {A : Type 0} (f : A → Bool) (n : ℕ) (a : A) → f a ≡ false → count f (replicate n a) ≡ 0
+count-replicate f zero a h = refl
+count-replicate f (suc n) a h = rw h (omega (arith, count-replicate f n a h))
+
+-- a store: the new element counts for the old
+pub count-swap : {A : Type 0} (f : A → Bool) (l : List A) (i : ℕ) (a d : A) → i < length l
+    → count f (set l i a) + cond (f (getD l i d)) 1 0 ≡ count f l + cond (f a) 1 0
+count-swap f [] i a d h = absurd (omega arith)
+count-swap f (x ∷ xs) zero a d h = omega arith
+count-swap f (x ∷ xs) (suc i) a d h = let e = count-swap f xs i a d (omega arith) in omega arith
+
+-- a store of an element that passes only where the old one did
+pub count-set : {A : Type 0} (f : A → Bool) (l : List A) (i : ℕ) (a d : A) → (f a ≡ true → f (getD l i d) ≡ true)
+    → count f (set l i a) ≤ count f l
+count-set f [] i a d h = omega arith
+count-set f (x ∷ xs) zero a d h = one-le (f a) (f x) (count f xs) (count f xs) h (omega arith)
+count-set f (x ∷ xs) (suc i) a d h = one-le (f x) (f x) _ _ (λ e. e) (count-set f xs i a d h)
+
+-- any store counts for one more at most
+pub count-set-one : {A : Type 0} (f : A → Bool) (l : List A) (i : ℕ) (a : A) → count f (set l i a) ≤ suc (count f l)
+count-set-one f [] i a = omega arith
+count-set-one f (x ∷ xs) zero a = by (f a) (f x) (count f xs)
+  where
+    by : (b c : Bool) (n : ℕ) → cond b 1 0 + n ≤ suc (cond c 1 0 + n)
+    by true true n = omega arith
+    by true false n = omega arith
+    by false true n = omega arith
+    by false false n = omega arith
+count-set-one f (x ∷ xs) (suc i) a = let h = count-set-one f xs i a in omega arith

@@ -1,0 +1,6 @@
+pub mod Bools
+pub mod Stores
+pub mod Facts
+pub mod Counts
+pub mod Sweeps
+pub mod Pigeonhole

@@ -1,0 +1,156 @@
+-- What is promised of the rules: demands 2 and 3, well-formedness, refusals, and fields that are not read. Statements only; the
+-- theorems of these types stand in proofs/Theorems.antt. Assumes nothing.
+use Prim.Native.Nat.{ℕ, _+_, _-_, _*_, _<_, _≤_, max}
+use mathlib.Core.Path.{_≡_}
+use mathlib.Core.Logic.{_≢_}
+use mathlib.Core.Bool.{Bool, true, not, _&&_, _||_, cond}
+use mathlib.Core.List.{List, [], _∷_}
+use lib.ListN.{length}
+use lib.Dec.{leb, eqb}
+use Rattle.lists.specs.Tests.{every, count, countFrom}
+use Rattle.model.specs.Params.{Params, InRange, delay}
+use Rattle.model.specs.State.{Node, Domain, Step, Free, Reachable, nodeOf, processOf, hazardOf}
+use Rattle.model.specs.WellFormed.{WellFormed}
+use Rattle.model.specs.Kinds.{Meaning, means, rowOf, kindOf, Unread}
+use Rattle.model.specs.Machine.{Outcome, step, run, fresh}
+use Rattle.model.specs.Reference.{Cell, Reference, Command, initial, cellAt, rowAt, pointerAt}
+use Rattle.model.specs.Reference.{asks, follow, valueOf, freeEach, EachFreeable}
+
+-- ---- Refusals and unread fields
+
+abbrev pub RefusedUnchanged : Type 0
+RefusedUnchanged = (d : Domain) (s : Step) → step d s .refusal ≢ 0 → (step d s .value ≡ 0) × (step d s .after ≡ d)
+
+abbrev pub reads : Meaning → Bool
+reads m = not (means m Unread)
+
+-- steps of one kind whose read fields are equal. Unknown kinds are one kind, and it reads none
+pub record SameRead (s t : Step) : Type 0 where
+  pub kind : kindOf (s .kind) ≡ kindOf (t .kind)
+  pub process : reads (rowOf (kindOf (s .kind)) .process) ≡ true → s .process ≡ t .process
+  pub hazard : reads (rowOf (kindOf (s .kind)) .hazard) ≡ true → s .hazard ≡ t .hazard
+  pub node : reads (rowOf (kindOf (s .kind)) .node) ≡ true → s .node ≡ t .node
+  pub guest : reads (rowOf (kindOf (s .kind)) .guest) ≡ true → s .guest ≡ t .guest
+
+abbrev pub UnreadFields : Type 0
+UnreadFields = (d : Domain) (s t : Step) → SameRead s t → step d s ≡ step d t
+
+-- ---- Well-formedness
+
+abbrev pub FreshWellFormed : Type 0
+FreshWellFormed = (a : Params) → InRange a → WellFormed (fresh a)
+
+abbrev pub StepWellFormed : Type 0
+StepWellFormed = (d : Domain) (s : Step) → WellFormed d → WellFormed (step d s .after)
+
+-- ---- Demand 2
+
+-- the panel's number
+abbrev pub reachableCount : Domain → ℕ
+reachableCount d = count (λ n. eqb (n .state) Reachable) (d .nodes)
+
+-- the accepted steps of kind k in a run
+abbrev pub acceptedOf : ℕ → Domain → List Step → ℕ
+acceptedOf k d [] = 0
+acceptedOf k d (s ∷ ss) =
+    cond (eqb (step d s .refusal) 0 && eqb (s .kind) k) 1 0 + acceptedOf k (step d s .after) ss
+
+-- accepted publishes less accepted removes
+abbrev pub Panel : Type 0
+Panel =
+    (a : Params) (ss : List Step) → reachableCount (run (fresh a) ss) + acceptedOf 7 (fresh a) ss ≡ acceptedOf 2 (fresh a) ss
+
+-- the kinds whose value is nodes freed: retire and manage
+abbrev pub reportsFreed : ℕ → Bool
+reportsFreed k = eqb k 8 || eqb k 12
+
+-- the nodes that a step is to free: as many as it reports
+abbrev pub freedCount : Step → Outcome → ℕ
+freedCount s o = cond (eqb (o .refusal) 0 && reportsFreed (s .kind)) (o .value) 0
+
+-- the nodes that were not Free before, and are after
+abbrev pub turnedFree : Domain → Domain → ℕ
+turnedFree d d' = countFrom (λ c n. not (eqb (n .state) Free) && eqb (nodeOf d' c .state) Free) 0 (d .nodes)
+
+abbrev pub FreedAreCounted : Type 0
+FreedAreCounted = (d : Domain) (s : Step) → WellFormed d → turnedFree d (step d s .after) ≡ freedCount s (step d s)
+
+-- ---- Demand 3: one claim about a whole list of steps
+
+abbrev pub commandOf : Step → Command
+commandOf s = record { kind = s .kind; process = s .process; hazard = s .hazard; node = s .node; guest = s .guest }
+
+-- the reference after a step, before its frees; a refused step changes nothing in it
+abbrev pub led : Reference → Step → Outcome → Reference
+led q s o = cond (eqb (o .refusal) 0) (follow q (commandOf s)) q
+
+-- the reference holds M nodes and N × K hazards, and all that it holds is the same on the domain
+pub record Agrees (a : Params) (q : Reference) (d : Domain) : Type 0 where
+  pub nodes : length (q .cells) ≡ a .nodes
+  pub processes : length (q .pointers) ≡ a .processes
+  pub hazards : (p : ℕ) → p < a .processes → length (rowAt q p) ≡ a .hazards
+  pub state : (c : ℕ) → cellAt q c .state ≡ nodeOf d c .state
+  pub owner : (c : ℕ) → cellAt q c .owner ≡ nodeOf d c .owner
+  pub guest : (c : ℕ) → cellAt q c .guest ≡ nodeOf d c .guest
+  pub assigned : (p h : ℕ) → pointerAt q p h .assigned ≡ hazardOf (processOf d p) h .assigned
+  pub validated : (p h : ℕ) → pointerAt q p h .validated ≡ hazardOf (processOf d p) h .validated
+
+-- one step of the list, with the nodes cs chosen for its frees
+pub record Matches (a : Params) (q : Reference) (s : Step) (o : Outcome) (cs : List ℕ) : Type 0 where
+  pub questions : o .refusal ≡ 0 → every (λ b. b) (asks q (commandOf s)) ≡ true
+  pub value : o .refusal ≡ 0 → s .kind ≡ 5 → valueOf q (commandOf s) ≡ o .value
+  pub many : length cs ≡ freedCount s o
+  pub freeable : EachFreeable (led q s o) cs
+  pub agrees : Agrees a (freeEach (led q s o) cs) (o .after)
+
+-- what the bound looks back on: the accepted ticks, and each accepted retire with the ticks before it
+pub record Retirement : Type 0 where
+  pub process : ℕ
+  pub clock : ℕ
+
+pub record History : Type 0 where
+  pub ticks : ℕ
+  pub retirements : List Retirement
+
+abbrev pub noHistory : History
+noHistory = record { ticks = 0; retirements = [] }
+
+-- the reference before the step stands by for kinds whose entry depends on it
+abbrev pub noted : Reference → Step → History → History
+noted q s h =
+    cond (eqb (s .kind) 8)
+    (record { ticks = h .ticks; retirements = record { process = s .process; clock = h .ticks } ∷ h .retirements })
+    (cond (eqb (s .kind) 11) (record { ticks = h .ticks + 1; retirements = h .retirements })
+    h)
+
+abbrev pub recorded : Reference → Step → Outcome → History → History
+recorded q s o h = cond (eqb (o .refusal) 0) (noted q s h) h
+
+-- a retirement by p at a clock of at least t
+abbrev pub retiredSince : ℕ → ℕ → Retirement → Bool
+retiredSince p t r = eqb (r .process) p && leb t (r .clock)
+
+-- the unfreed retired nodes of p, on the reference
+abbrev pub unfreed : ℕ → Cell → Bool
+unfreed p x = eqb (x .state) 4 && eqb (x .owner) p
+
+abbrev pub bound : Params → History → ℕ → ℕ
+bound a h p =
+    max (a .fallbackThreshold - 1)
+    (a .processes * a .hazards + count (retiredSince p (h .ticks - delay a)) (h .retirements))
+
+-- right after an accepted retire
+abbrev pub Bounded : Params → History → Step → Outcome → Reference → Type 0
+Bounded a h s o q = o .refusal ≡ 0 → s .kind ≡ 8 → count (unfreed (s .process)) (q .cells) ≤ bound a h (s .process)
+
+abbrev pub Follows : Params → Reference → Domain → History → List Step → Type 0
+Follows a q d h [] = Unit {0}
+Follows a q d h (s ∷ ss) =
+    (cs : List ℕ)
+    × Matches a q s (step d s) cs
+    × Bounded a (recorded q s (step d s) h) s (step d s) (freeEach (led q s (step d s)) cs)
+    × Follows a (freeEach (led q s (step d s)) cs) (step d s .after) (recorded q s (step d s) h) ss
+
+abbrev pub Demand3 : Type 0
+Demand3 =
+    (a : Params) (ss : List Step) → Follows a (initial (a .processes) (a .hazards) (a .nodes)) (fresh a) noHistory ss

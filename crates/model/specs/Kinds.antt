@@ -1,0 +1,94 @@
+-- The thirteen kinds of steps and their one table: which fields each reads, what each field is to it, and the node state it needs.
+-- Assumes nothing.
+use Prim.Native.Nat.{ℕ}
+use mathlib.Core.Bool.{Bool, true, false, cond}
+use lib.Dec.{eqb}
+use Rattle.model.specs.State.{Free, Allocated, Reachable, Removed}
+
+-- Flush is the paper's rooster, ClearPresence its roll call
+pub data Kind : Type 0 where
+  Allocate Publish Protect Check Use Clear Remove Retire Drain Flush Tick Manage ClearPresence Unknown : Kind
+
+abbrev pub kindOf : ℕ → Kind
+kindOf k =
+    cond (eqb k 1) Allocate (cond (eqb k 2) Publish (cond (eqb k 3) Protect (cond (eqb k 4) Check
+    (cond (eqb k 5) Use (cond (eqb k 6) Clear (cond (eqb k 7) Remove (cond (eqb k 8) Retire
+    (cond (eqb k 9) Drain (cond (eqb k 10) Flush (cond (eqb k 11) Tick (cond (eqb k 12) Manage
+    (cond (eqb k 13) ClearPresence Unknown))))))))))))
+
+abbrev pub numberOf : Kind → ℕ
+numberOf Allocate = 1
+numberOf Publish = 2
+numberOf Protect = 3
+numberOf Check = 4
+numberOf Use = 5
+numberOf Clear = 6
+numberOf Remove = 7
+numberOf Retire = 8
+numberOf Drain = 9
+numberOf Flush = 10
+numberOf Tick = 11
+numberOf Manage = 12
+numberOf ClearPresence = 13
+numberOf Unknown = 0
+
+abbrev pub is : Kind → Kind → Bool
+is j k = eqb (numberOf j) (numberOf k)
+
+-- what a field of a step is to a kind. The last is a number with no range of its own
+pub data Meaning : Type 0 where
+  Unread ProcessId HazardId NodeId Number : Meaning
+
+abbrev pub rank : Meaning → ℕ
+rank Unread = 0
+rank ProcessId = 1
+rank HazardId = 2
+rank NodeId = 3
+rank Number = 4
+
+abbrev pub means : Meaning → Meaning → Bool
+means m n = eqb (rank m) (rank n)
+
+-- the node state that a kind needs
+pub data Needed : Type 0 where
+  Any : Needed
+  Exactly : ℕ → Needed
+
+abbrev pub meets : Needed → ℕ → Bool
+meets Any k = true
+meets (Exactly n) k = eqb k n
+
+pub record Row : Type 0 where
+  pub process : Meaning
+  pub hazard : Meaning
+  pub node : Meaning
+  pub guest : Meaning
+  pub needs : Needed
+  -- whether the process must own the node
+  pub owns : Bool
+
+-- a row of what is read, with no state needed; with a state needed; and owned too
+abbrev pub reading : Meaning → Meaning → Meaning → Meaning → Row
+reading p h n g = record { process = p; hazard = h; node = n; guest = g; needs = Any; owns = false }
+
+abbrev pub needing : ℕ → Row → Row
+needing k r = record { process = r .process; hazard = r .hazard; node = r .node; guest = r .guest; needs = Exactly k; owns = r .owns }
+
+abbrev pub owning : Row → Row
+owning r = record { process = r .process; hazard = r .hazard; node = r .node; guest = r .guest; needs = r .needs; owns = true }
+
+abbrev pub rowOf : Kind → Row
+rowOf Allocate = needing Free (reading ProcessId Unread NodeId Number)
+rowOf Publish = owning (needing Allocated (reading ProcessId Unread NodeId Unread))
+rowOf Protect = reading ProcessId HazardId NodeId Unread
+rowOf Check = reading ProcessId HazardId Unread Unread
+rowOf Use = reading ProcessId HazardId Unread Unread
+rowOf Clear = reading ProcessId HazardId Unread Unread
+rowOf Remove = needing Reachable (reading ProcessId Unread NodeId Unread)
+rowOf Retire = owning (needing Removed (reading ProcessId Unread NodeId Unread))
+rowOf Drain = reading ProcessId Unread Unread Unread
+rowOf Flush = reading ProcessId Unread Unread Unread
+rowOf Tick = reading Unread Unread Unread Unread
+rowOf Manage = reading ProcessId Unread Unread Unread
+rowOf ClearPresence = reading Unread Unread Unread Unread
+rowOf Unknown = reading Unread Unread Unread Unread

@@ -1,0 +1,11 @@
+pub mod Params
+pub mod State
+pub mod WellFormed
+pub mod Kinds
+pub mod Hazards
+pub mod Retire
+pub mod Epochs
+pub mod Questions
+pub mod Machine
+pub mod Reference
+pub mod Claims

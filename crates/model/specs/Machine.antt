@@ -1,0 +1,83 @@
+-- The machine: what each kind does, a step, a run over a list, and a fresh domain. Assumes nothing.
+use Prim.Native.Nat.{ℕ, suc, _+_}
+use mathlib.Core.Bool.{cond}
+use mathlib.Core.List.{List, [], _∷_}
+use lib.ListN.{replicate}
+use lib.Dec.{eqb}
+use Rattle.model.specs.Params.{Params}
+use Rattle.model.specs.State.{Node, Domain, Step, Allocated, Reachable, Removed, Fast, freeNode, emptyHazard}
+use Rattle.model.specs.State.{nodeOf, setNode, setProcess, withClock, clearPresence}
+use Rattle.model.specs.Kinds.{Kind, kindOf, Allocate, Publish, Protect, Check, Use, Clear, Remove, Retire}
+use Rattle.model.specs.Kinds.{Drain, Flush, Tick, Manage, ClearPresence, Unknown}
+use Rattle.model.specs.Hazards.{here, target, assign, validating, drained, flushed}
+use Rattle.model.specs.Retire.{Effect, effect, marked, reclaim}
+use Rattle.model.specs.Epochs.{manage}
+use Rattle.model.specs.Questions.{refusalOf}
+
+-- the refusal number, 0 for accepted; the value; and the domain afterwards
+pub record Outcome : Type 0 where
+  pub refusal : ℕ
+  pub value : ℕ
+  pub after : Domain
+
+abbrev pub refused : ℕ → Domain → Outcome
+refused n d = record { refusal = n; value = 0; after = d }
+
+abbrev pub accepted : Effect → Outcome
+accepted e = record { refusal = 0; value = e .value; after = e .after }
+
+-- ---- 1 Allocate, 2 Publish, 7 Remove
+
+abbrev pub allocating : Step → Node
+allocating s = record { state = Allocated; owner = s .process; guest = s .guest; retiredAt = 0; limbo = 0 }
+
+abbrev pub publishing : Node → Node
+publishing n = record { state = Reachable; owner = 0; guest = n .guest; retiredAt = n .retiredAt; limbo = n .limbo }
+
+abbrev pub removing : ℕ → Node → Node
+removing p n = record { state = Removed; owner = p; guest = n .guest; retiredAt = n .retiredAt; limbo = n .limbo }
+
+-- what each kind does once every question is answered yes
+abbrev pub act : Kind → Domain → Step → Effect
+act Allocate d s = effect 0 (setNode d (s .node) (allocating s))
+act Publish d s = effect 0 (setNode d (s .node) (publishing (nodeOf d (s .node))))
+act Protect d s = effect 0 (assign d s (suc (s .node)))
+act Check d s = effect 0 (setProcess d (s .process) (validating (here d s) (s .hazard)))
+act Use d s = effect (target d s .guest) d
+act Clear d s = effect 0 (assign d s 0)
+act Remove d s = effect 0 (setNode d (s .node) (removing (s .process) (nodeOf d (s .node))))
+act Retire d s = reclaim (marked d s) (s .process)
+act Drain d s = effect 0 (setProcess d (s .process) (drained (here d s) (here d s .buffer)))
+act Flush d s = effect 0 (setProcess d (s .process) (flushed (here d s) (here d s .buffer)))
+act Tick d s = effect 0 (withClock d (d .clock + 1))
+act Manage d s = manage d s
+act ClearPresence d s = effect 0 (clearPresence d)
+act Unknown d s = effect 0 d
+
+-- a refusal number turns the effect away
+abbrev pub answered : ℕ → Domain → Effect → Outcome
+answered r d e = cond (eqb r 0) (accepted e) (refused r d)
+
+abbrev pub stepAs : Kind → Domain → Step → Outcome
+stepAs k d s = answered (refusalOf k d s) d (act k d s)
+
+unfoldable pub step : Domain → Step → Outcome
+step d s = stepAs (kindOf (s .kind)) d s
+
+-- the domain after a list of steps
+abbrev pub run : Domain → List Step → Domain
+run d [] = d
+run d (s ∷ ss) = run (step d s .after) ss
+
+-- the parameters, and 0 elsewhere
+unfoldable pub fresh : Params → Domain
+fresh a =
+    record {
+      params = a;
+      clock = 0;
+      path = Fast;
+      epoch = 0;
+      processes = replicate (a .processes)
+          (record { epoch = 0; calls = 0; presence = 0; buffer = []; hazards = replicate (a .hazards) emptyHazard });
+      nodes = replicate (a .nodes) freeNode;
+    }

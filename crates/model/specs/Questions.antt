@@ -1,0 +1,46 @@
+-- The questions before a step, numbers 4 to 17 in the paper's order; ranges and states are decided by the table. Assumes nothing.
+use Prim.Native.Nat.{ℕ}
+use mathlib.Core.Bool.{Bool, true, not, _||_, cond}
+use mathlib.Core.List.{List, [], _∷_}
+use lib.ListN.{length}
+use lib.Dec.{ltb, eqb}
+use Rattle.lists.specs.Tests.{every, implies}
+use Rattle.model.specs.Params.{bufferSize, lastClock}
+use Rattle.model.specs.State.{Domain, Step, Reachable, nodeOf}
+use Rattle.model.specs.Kinds.{Kind, is, means, meets, rowOf, ProcessId, HazardId, NodeId}
+use Rattle.model.specs.Kinds.{Protect, Check, Use, Clear, Drain, Tick, Manage, Unknown}
+use Rattle.model.specs.Hazards.{here, pointer, target, young, unassigned}
+
+-- a question by its number, and whether its answer is yes
+pub record Question : Type 0 where
+  pub number : ℕ
+  pub yes' : Bool
+
+abbrev pub ask : ℕ → Bool → Question
+ask n b = record { number = n; yes' = b }
+
+-- the number of the first question with the answer no; 0 where there is none
+abbrev pub firstNo : List Question → ℕ
+firstNo [] = 0
+firstNo (q ∷ qs) = cond (q .yes') (firstNo qs) (q .number)
+
+abbrev pub questions : Kind → Domain → Step → List Question
+questions k d s =
+    ask 4 (not (is k Unknown))
+    ∷ ask 5 (implies (means (rowOf k .process) ProcessId) (ltb (s .process) (d .params .processes)))
+    ∷ ask 6 (implies (means (rowOf k .hazard) HazardId) (ltb (s .hazard) (d .params .hazards)))
+    ∷ ask 7 (implies (means (rowOf k .node) NodeId) (ltb (s .node) (d .params .nodes)))
+    ∷ ask 8 (meets (rowOf k .needs) (nodeOf d (s .node) .state))
+    ∷ ask 9 (implies (rowOf k .owns) (eqb (nodeOf d (s .node) .owner) (s .process)))
+    ∷ ask 10 (implies (is k Check) (not (eqb (pointer d s .assigned) 0)))
+    ∷ ask 11 (implies (is k Check) (eqb (target d s .state) Reachable))
+    ∷ ask 12 (implies (is k Use) (eqb (pointer d s .validated) 1))
+    ∷ ask 13 (implies (is k Protect || is k Clear) (ltb (length (here d s .buffer)) bufferSize))
+    ∷ ask 14 (implies (is k Drain) (not (eqb (length (here d s .buffer)) 0)))
+    ∷ ask 15 (implies (is k Tick) (ltb (d .clock) lastClock))
+    ∷ ask 16 (implies (is k Tick) (every (young d) (d .processes)))
+    ∷ ask 17 (implies (is k Manage) (unassigned (here d s)))
+    ∷ []
+
+abbrev pub refusalOf : Kind → Domain → Step → ℕ
+refusalOf k d s = firstNo (questions k d s)
