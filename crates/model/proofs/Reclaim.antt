@@ -1,0 +1,171 @@
+-- No node that is freed is claimed: in a scan because of the buffers (clauses T, B and H), in a quiescent state because of the epochs
+-- (clauses E and G). Assumes nothing.
+use Prim.Native.Nat.{ℕ, zero, suc, _+_, _*_, _<_, _≤_}
+use mathlib.Core.Bool.{Bool, true, false}
+use mathlib.Core.List.{List, [], _∷_}
+use mathlib.Core.Path.{_≡_, refl, sym, _∙_, ap}
+use mathlib.Core.Logic.{_≢_}
+use native.Mathlib.Omega.{arith}
+use borrow.Author.Tests.{eqb-true, ltb-true}
+use lib.ListN.{length, getD, length-map, length-append, List·getD-map}
+use lib.Dec.{eqb}
+use Rattle.lists.specs.Tests.{All, lacks}
+use Rattle.lists.proofs.Bools.{both, by-cond, implied}
+use Rattle.lists.proofs.Facts.{all-map, every-at, every-in, every-append}
+use Rattle.lists.proofs.Pigeonhole.{lacks-at}
+use Rattle.model.specs.Params.{delay}
+use Rattle.model.specs.State.{Pending, Process, Node, Domain, Step, Retired, emptyHazard, noProcess, nodeOf}
+use Rattle.model.specs.State.{processOf, hazardOf}
+use Rattle.model.specs.State.{withEpoch, inEpochs, nextEpoch}
+use Rattle.model.specs.Hazards.{here, unassigned}
+use Rattle.model.specs.Retire.{retiredBy, visibleIn, visibleFrom, visibleTo, aged, due, within, dueIn, freeing}
+use Rattle.model.specs.Retire.{scan, retiring, marked}
+use Rattle.model.specs.Epochs.{expired, caughtUp, quiescent}
+use Rattle.model.proofs.Walk.{by-quiescent}
+use Rattle.model.proofs.Invariant.{latest, Timely, epochIn, Inv, Claim}
+use Rattle.model.proofs.Updates.{held-by, set-node, sweep-nodes, set-process}
+use Rattle.model.proofs.Buffer.{near-here}
+
+-- ---- what a scanning process sees: the two laws that a scan and the bound go by
+
+-- N × K places
+visible-length : (own : Bool) (x : Process) → length (visibleIn own x) ≡ length (x .hazards)
+visible-length own x = length-map (x .hazards) _
+
+-- a hazard that already shows what it will show once flushed is seen
+visible-settled : (own : Bool) (x : Process) (h : ℕ) → latest (x .buffer) h (hazardOf x h .visible) ≡ hazardOf x h .visible
+    → getD (visibleIn own x) h 0 ≡ hazardOf x h .visible
+visible-settled own x h e = List·getD-map (λ y. y .visible) (x .hazards) h emptyHazard
+
+pub visible-count : (p i : ℕ) (ps : List Process) (k : ℕ) → ((q : ℕ) → q < length ps → length (getD ps q noProcess .hazards) ≡ k)
+    → length (visibleFrom p i ps) ≡ length ps * k
+visible-count p i [] k f = omega arith
+visible-count p i (x ∷ xs) k f =
+    length-append (visibleIn (eqb i p) x) (visibleFrom p (suc i) xs)
+    ∙ omega (arith, visible-length (eqb i p) x, f 0 (omega arith), visible-count p (suc i) xs k (λ q h. f (suc q) (omega arith)))
+
+-- what is in no hazard is in none of process q
+lacked-by : (p i : ℕ) (ps : List Process) (q v : ℕ) → lacks (visibleFrom p i ps) v ≡ true
+    → (own : Bool) × (lacks (visibleIn own (getD ps q noProcess)) v ≡ true)
+lacked-by p i [] q v h = (false, refl)
+lacked-by p i (x ∷ xs) zero v h = (eqb i p, every-append _ (visibleIn (eqb i p) x) (visibleFrom p (suc i) xs) h .0)
+lacked-by p i (x ∷ xs) (suc q) v h = lacked-by p (suc i) xs q v (every-append _ (visibleIn (eqb i p) x) (visibleFrom p (suc i) xs) h .1)
+
+-- ---- the scan
+
+-- by T, a hazard whose pending stores are older than the delay has none
+settled : (clock wait at : ℕ) (b : List Pending) (h v : ℕ) → All (Timely clock wait) b → All (λ w. w .hazard ≡ h → w .time ≤ at) b
+    → at + wait < clock → latest b h v ≡ v
+settled clock wait at [] h v f k o = refl
+settled clock wait at (w ∷ b) h v f k o =
+    by-cond (λ u. latest b h u ≡ v) (eqb (w .hazard) h)
+    (λ e. absurd (omega (arith, k .0 (eqb-true _ _ e), f .0 .recent)))
+    (λ _. settled clock wait at b h v (f .1) (k .1) o)
+
+pub retired-by : (p : ℕ) (n : Node) → retiredBy p n ≡ true → (n .state ≡ Retired) × (n .owner ≡ p)
+retired-by p n h = let e = both (eqb (n .state) Retired) (eqb (n .owner) p) h in (eqb-true _ _ (e .0), eqb-true _ _ (e .1))
+
+pub due-retired : (d : Domain) (p a b c : ℕ) (n : Node) → dueIn d p a b c n ≡ true → n .state ≡ Retired
+due-retired d p a b c n h = retired-by p n (both (retiredBy p n) _ (both (within a b c) _ h .1) .0) .0
+
+pub expired-retired : (d : Domain) (p c : ℕ) (n : Node) → expired d p c n ≡ true → n .state ≡ Retired
+expired-retired d p c n h = retired-by p n (both (retiredBy p n) _ h .0) .0
+
+past-delay : (d : Domain) (n : Node) → aged d n ≡ true → n .retiredAt + delay (d .params) < d .clock
+past-delay d n h = omega (arith, ltb-true)
+
+-- only a process that is there has claims
+claimant : (ps : List Process) (p h : ℕ) → hazardOf (getD ps p noProcess) h .validated ≡ 1 → p < length ps
+claimant [] p h v = absurd (omega arith)
+claimant (x ∷ xs) zero h v = omega arith
+claimant (x ∷ xs) (suc p) h v = omega (arith, claimant xs p h v)
+
+module _ (d : Domain) (i : Inv d) where
+  -- by H and T the claim's store is committed, so by B the node is visible, and the scan keeps it
+  pub due-unclaimed : (p a b q h c : ℕ) → Claim d q h c → dueIn d p a b c (nodeOf d c) ≡ true → ⊥
+  due-unclaimed p a b q h c k t =
+      let n = nodeOf d c in
+      let x = processOf d q in
+      let u = both (retiredBy p n) _ (both (within a b c) (due d p c n) t .1) in
+      let v = both (aged d n) (lacks (visibleTo d p) (suc c)) (u .1) in
+      let l = held-by d i q h c k .limbo (retired-by p n (u .0) .0) in
+      let still = settled (d .clock) (delay (d .params)) (n .retiredAt) (x .buffer) h (hazardOf x h .visible) (i .processes q .timely) (l .before) (past-delay d n (v .0)) in
+      let there : hazardOf x h .visible ≡ suc c = sym still ∙ i .processes q .arrives h ∙ k .assigned in
+      let gone = lacked-by p 0 (d .processes) q (suc c) (v .1) in
+      lacks-at (visibleIn (gone .0) x) h (suc c) (gone .1) (λ e. omega arith) (visible-settled (gone .0) x h still ∙ there)
+
+  pub scan-ok : (p : ℕ) → Inv (scan d p .after)
+  scan-ok p = sweep-nodes d i (dueIn d p 0 (d .params .nodes)) (due-unclaimed p 0 (d .params .nodes))
+
+  -- ---- the quiescent state
+
+  -- by G the owner of a claimed node on the global epoch's list is at that epoch, so it does not come there now
+  pub expired-unclaimed : (p q h c : ℕ) → processOf d p .epoch ≢ d .epoch → Claim d q h c → expired d p c (nodeOf d c) ≡ true → ⊥
+  expired-unclaimed p q h c ne k t =
+      let n = nodeOf d c in
+      let u = both (retiredBy p n) (eqb (n .limbo) (d .epoch)) t in
+      let o = retired-by p n (u .0) in
+      let l = held-by d i q h c k .limbo (o .0) in
+      ne (ap (epochIn (d .processes)) (sym (o .1)) ∙ l .home (eqb-true _ _ (u .1)))
+
+  -- all local epochs have come to the global one: none is behind, so by G no claimed node is on the list of two epochs ago,
+  -- which is the next global epoch's
+  advance-ok : caughtUp d ≡ true → Inv (withEpoch d (nextEpoch (d .epoch)))
+  advance-ok u =
+      record {
+        shape = record { processes = i .shape .processes; hazards = i .shape .hazards; nodes = i .shape .nodes };
+        epoch = omega (arith, i .epoch);
+        near = λ p k c. let e = at p k c in (omega (arith, i .epoch), omega (arith, i .epoch));
+        processes = λ p. let o = i .processes p in record {
+          arrives = o .arrives;
+          timely = o .timely;
+          aimed = o .aimed;
+          counts = o .counts;
+          held = λ h n v a. let e = at p (claimant (d .processes) p h v) (o .counts h n v a) in let k = o .held h n v a in record {
+            published = k .published;
+            limbo = λ r. let l = k .limbo r in record {
+              before = l .before;
+              home = λ x. absurd (l .behind x e);
+              behind = λ x y. omega (arith, i .epoch);
+            };
+          };
+        };
+      }
+    where
+      at : (p : ℕ) → p < length (d .processes) → inEpochs (processOf d p) ≡ true → processOf d p .epoch ≡ d .epoch
+      at p k c = eqb-true _ _ (implied _ _ (every-in _ (d .processes) p noProcess u k) c)
+
+  pub quiescent-ok : (p : ℕ) → p < d .params .processes → unassigned (processOf d p) ≡ true → Inv (quiescent d p .after)
+  quiescent-ok p hp u =
+      by-quiescent (λ f. Inv (f .after)) d p
+      (λ _. advance-ok)
+      (λ _ _. i)
+      (λ ne. set-process (freeing d (expired d p) .after)
+      (sweep-nodes d i (expired d p) (λ q h c. expired-unclaimed p q h c ne))
+      p _ hp refl (λ _. (i .epoch, omega (arith, i .epoch))) (λ _. refl)
+      (record {
+        arrives = i .processes p .arrives;
+        timely = i .processes p .timely;
+        aimed = i .processes p .aimed;
+        counts = i .processes p .counts;
+        held = λ h n v a. absurd (bare h n a);
+      }))
+    where
+      bare : (h n : ℕ) → hazardOf (processOf d p) h .assigned ≡ suc n → ⊥
+      bare h n a =
+          let e = every-at (λ y. eqb (y .assigned) 0) (processOf d p .hazards) h emptyHazard u refl in omega (arith, eqb-true)
+
+-- ---- a Removed node is marked Retired: by T and E its claims have the facts of H and G
+pub marked-ok : (d : Domain) (s : Step) → Inv d → s .process < d .params .processes → inEpochs (here d s) ≡ true
+    → nodeOf d (s .node) .owner ≡ s .process → Inv (marked d s)
+marked-ok d s i hp ht ho =
+    set-node d i (s .node) (retiring (d .clock) (here d s .epoch) (nodeOf d (s .node))) λ p h k o.
+    record {
+      published = omega arith;
+      limbo = λ _. record {
+        before = all-map (Timely (d .clock) (delay (d .params))) (λ w. w .hazard ≡ h → w .time ≤ d .clock) (processOf d p .buffer)
+            (λ w f _. f .past) (i .processes p .timely);
+        home = λ e. ap (epochIn (d .processes)) ho ∙ e;
+        behind = λ e. absurd (near-here d s i hp ht .1 e);
+      };
+    }
