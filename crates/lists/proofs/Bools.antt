@@ -1,5 +1,5 @@
 -- Case analysis on a test, and what a compound test says of its parts. Assumes nothing.
-use mathlib.Core.Bool.{Bool, true, false, _&&_, _||_, cond, false≢true}
+use mathlib.Core.Bool.{Bool, true, false, _&&_, cond, false≢true}
 use mathlib.Core.Path.{_≡_, refl}
 use Rattle.lists.specs.Tests.{implies}
 

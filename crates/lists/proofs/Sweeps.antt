@@ -6,6 +6,8 @@ use mathlib.Core.Path.{_≡_, refl, sym, _∙_, ap, subst}
 use native.Mathlib.Omega.{arith}
 use native.Mathlib.Nat.{suc-add, add-suc, add-zero}
 use lib.ListN.{length, getD}
+use lib.Dec.{leb, ltb}
+use borrow.Author.Tests.{le-leb, lt-ltb}
 use Rattle.lists.specs.Tests.{count, countFrom}
 use Rattle.lists.specs.Sweep.{sweepFrom, placesFrom}
 use Rattle.lists.proofs.Bools.{by-cond}
@@ -79,3 +81,10 @@ count-left z own old free i (x ∷ xs) k = by (own x) refl (old x) (free i) (cou
     by false e true false h = rw e (omega arith)
     by false e false true h = rw e (omega arith)
     by false e false false h = rw e (omega arith)
+
+-- a sweep of the places up to m, of a list that goes no further, is a sweep of all
+pub sweep-within : {A : Type 0} (z : A) (f : ℕ → A → Bool) (m i : ℕ) (l : List A) → i + length l ≤ m
+    → sweepFrom z (λ c x. (leb 0 c && ltb c m) && f c x) i l ≡ sweepFrom z f i l
+sweep-within z f m i [] h = refl
+sweep-within z f m i (x ∷ xs) h =
+    rw (le-leb 0 i (omega arith), lt-ltb i m (omega arith)) (ap (λ r. cond (f i x) z x ∷ r) (sweep-within z f m (suc i) xs (omega arith)))

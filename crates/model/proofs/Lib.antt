@@ -1,6 +1,11 @@
 pub mod Walk
+pub mod KindNumbers
 pub mod Invariant
 pub mod Updates
 pub mod Buffer
 pub mod Reclaim
 pub mod Preserved
+pub mod Image
+pub mod Simulation
+pub mod Bound
+pub mod Demand3

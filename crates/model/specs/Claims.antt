@@ -9,7 +9,7 @@ use lib.ListN.{length}
 use lib.Dec.{leb, eqb}
 use Rattle.lists.specs.Tests.{every, count, countFrom}
 use Rattle.model.specs.Params.{Params, InRange, delay}
-use Rattle.model.specs.State.{Node, Domain, Step, Free, Reachable, nodeOf, processOf, hazardOf}
+use Rattle.model.specs.State.{Domain, Step, Free, Reachable, nodeOf, processOf, hazardOf}
 use Rattle.model.specs.WellFormed.{WellFormed}
 use Rattle.model.specs.Kinds.{Meaning, means, rowOf, kindOf, Unread}
 use Rattle.model.specs.Machine.{Outcome, step, run, fresh}

@@ -3,7 +3,7 @@ use Prim.Native.Nat.{ℕ, _+_, _%_}
 use mathlib.Core.Bool.{Bool, _&&_, cond}
 use lib.Dec.{eqb}
 use Rattle.lists.specs.Tests.{every, implies}
-use Rattle.model.specs.State.{Process, Node, Domain, Step, Fast, Fallback, processOf, withWords, withPath}
+use Rattle.model.specs.State.{Node, Domain, Step, Fast, Fallback, processOf, withWords, withPath}
 use Rattle.model.specs.State.{withEpoch, setProcess, inPresence, inEpochs, nextEpoch}
 use Rattle.model.specs.Hazards.{here}
 use Rattle.model.specs.Retire.{Effect, effect, retiredBy, freeing}

@@ -5,7 +5,8 @@ use mathlib.Core.List.{List, [], _∷_, _++_}
 use lib.Dec.{ltb, eqb}
 use Rattle.lists.specs.Tests.{every}
 use Rattle.model.specs.Params.{delay}
-use Rattle.model.specs.State.{Pending, Hazard, Process, Node, Domain, Step, nodeOf, processOf, hazardOf, withStores, setHazard, setProcess}
+use Rattle.model.specs.State.{Pending, Hazard, Process, Node, Domain, Step, nodeOf, processOf, hazardOf}
+use Rattle.model.specs.State.{withStores, setHazard, setProcess}
 
 -- the process of a step, its hazard, and the node assigned to that
 abbrev pub here : Domain → Step → Process

@@ -1,0 +1,142 @@
+-- The reference's image of a domain: it agrees with the domain, and the reference's step at the image comes to the image of the domain
+-- after it. Assumes nothing.
+use Prim.Native.Nat.{ℕ, _-_}
+use mathlib.Core.Bool.{true, cond}
+use mathlib.Core.List.{List, [], _∷_, map}
+use mathlib.Core.Path.{_≡_, refl, sym, ap, _∙_}
+use borrow.Author.Tests.{lt-ltb, eq-eqb, ne-eqb}
+use lib.ListN.{getD, length-map, List·getD-map}
+use lib.Seq.{map-set-same}
+use Rattle.lists.specs.Tests.{every}
+use Rattle.lists.proofs.Stores.{map-set, map-replicate, map-again}
+use Rattle.model.specs.Params.{Params}
+use Rattle.model.specs.State.{Pending, Hazard, Process, Node, Domain, Step, emptyHazard, noProcess, freeNode}
+use Rattle.model.specs.State.{processOf, hazardOf}
+use Rattle.model.specs.State.{setProcess, absent, clearPresence}
+use Rattle.model.specs.Kinds.{Kind, is, Allocate, Publish, Protect, Check, Use, Clear, Remove, Retire}
+use Rattle.model.specs.Kinds.{Drain, Flush, Tick, Manage, ClearPresence, Unknown}
+use Rattle.model.specs.Hazards.{here, target, committing, drained, flushed}
+use Rattle.model.specs.Retire.{marked}
+use Rattle.model.specs.Machine.{act, fresh}
+use Rattle.model.specs.Reference.{Cell, Pointer, Reference, emptyCell, emptyPointer, initial, cellAt, pointerAt}
+use Rattle.model.specs.Reference.{asks, follow, valueOf}
+use Rattle.model.specs.Claims.{Agrees, commandOf}
+use Rattle.model.proofs.Walk.{Asked}
+use Rattle.model.proofs.KindNumbers.{atKind}
+use Rattle.model.proofs.Invariant.{Shaped}
+
+abbrev pub cell : Node → Cell
+cell n = record { state = n .state; owner = n .owner; guest = n .guest }
+
+abbrev pub pointer' : Hazard → Pointer
+pointer' h = record { assigned = h .assigned; validated = h .validated }
+
+abbrev pub row : Process → List Pointer
+row x = map pointer' (x .hazards)
+
+abbrev pub image : Domain → Reference
+image d =
+    record {
+      processes = d .params .processes;
+      hazards = d .params .hazards;
+      nodes = d .params .nodes;
+      cells = map cell (d .nodes);
+      pointers = map row (d .processes);
+    }
+
+cell-at : (ns : List Node) (c : ℕ) → getD (map cell ns) c emptyCell ≡ cell (getD ns c freeNode)
+cell-at ns c = List·getD-map cell ns c freeNode
+
+row-at : (ps : List Process) (p : ℕ) → getD (map row ps) p [] ≡ row (getD ps p noProcess)
+row-at ps p = List·getD-map row ps p noProcess
+
+pointer-at : (hs : List Hazard) (h : ℕ) → getD (map pointer' hs) h emptyPointer ≡ pointer' (getD hs h emptyHazard)
+pointer-at hs h = List·getD-map pointer' hs h emptyHazard
+
+pub pointer-there : (d : Domain) (p h : ℕ) → pointerAt (image d) p h ≡ pointer' (hazardOf (processOf d p) h)
+pointer-there d p h = rw (row-at (d .processes) p) (pointer-at (processOf d p .hazards) h)
+
+pub image-agrees : (a : Params) (d : Domain) → d .params ≡ a → Shaped d → Agrees a (image d) d
+image-agrees a d e s =
+    record {
+      nodes = length-map (d .nodes) cell ∙ s .nodes ∙ ap (λ x. x .nodes) e;
+      processes = length-map (d .processes) row ∙ s .processes ∙ ap (λ x. x .processes) e;
+      hazards = λ p h. rw (row-at (d .processes) p) (length-map (processOf d p .hazards) pointer'
+          ∙ s .hazards p (rw (s .processes, e) h) ∙ ap (λ x. x .hazards) e);
+      state = λ c. ap (λ n. n .state) (cell-at (d .nodes) c);
+      owner = λ c. ap (λ n. n .owner) (cell-at (d .nodes) c);
+      guest = λ c. ap (λ n. n .guest) (cell-at (d .nodes) c);
+      assigned = λ p h. ap (λ n. n .assigned) (pointer-there d p h);
+      validated = λ p h. ap (λ n. n .validated) (pointer-there d p h);
+    }
+
+-- ---- the reference's questions at the image: all yes, where the step's own are
+
+pub yes-as : (k : Kind) (d : Domain) (s : Step) → Asked k d s → every (λ b. b) (asks (image d) (commandOf (atKind k s))) ≡ true
+unfolding asks
+yes-as Allocate d s a = simp (lt-ltb _ _ (a .process refl), lt-ltb _ _ (a .node refl), cell-at, eq-eqb _ _ (a .state 0 refl))
+yes-as Publish d s a =
+    simp (lt-ltb _ _ (a .process refl), lt-ltb _ _ (a .node refl), cell-at, eq-eqb _ _ (a .state 1 refl), eq-eqb _ _ (a .owner refl))
+yes-as Protect d s a = simp (lt-ltb _ _ (a .process refl), lt-ltb _ _ (a .hazard refl), lt-ltb _ _ (a .node refl))
+yes-as Check d s a =
+    simp (lt-ltb _ _ (a .process refl), lt-ltb _ _ (a .hazard refl), row-at, pointer-at, cell-at, ne-eqb _ _ (a .assigned refl), eq-eqb _ _ (a .reachable refl))
+yes-as Use d s a = simp (lt-ltb _ _ (a .process refl), lt-ltb _ _ (a .hazard refl), row-at, pointer-at, eq-eqb _ _ (a .validated refl))
+yes-as Clear d s a = simp (lt-ltb _ _ (a .process refl), lt-ltb _ _ (a .hazard refl))
+yes-as Remove d s a = simp (lt-ltb _ _ (a .process refl), lt-ltb _ _ (a .node refl), cell-at, eq-eqb _ _ (a .state 2 refl))
+yes-as Retire d s a =
+    simp (lt-ltb _ _ (a .process refl), lt-ltb _ _ (a .node refl), cell-at, eq-eqb _ _ (a .state 3 refl), eq-eqb _ _ (a .owner refl))
+yes-as Drain d s a = refl
+yes-as Flush d s a = refl
+yes-as Tick d s a = refl
+yes-as Manage d s a = refl
+yes-as ClearPresence d s a = refl
+yes-as Unknown d s a = refl
+
+-- ---- changes that the image does not show
+
+row-drained : (x : Process) (b : List Pending) → row (drained x b) ≡ row x
+row-drained x [] = refl
+row-drained x (w ∷ b) = map-set-same pointer' (x .hazards) (w .hazard) _ emptyHazard refl
+
+row-flushed : (x : Process) (b : List Pending) → row (flushed x b) ≡ row x
+row-flushed x [] = refl
+row-flushed x (w ∷ b) = row-flushed (committing x w b) b ∙ row-drained x (w ∷ b)
+
+-- a process that keeps what is assigned and validated
+pub same-row : (d : Domain) (p : ℕ) (x : Process) → row x ≡ row (processOf d p) → image (setProcess d p x) ≡ image d
+same-row d p x e = simp (map-set-same row (d .processes) p x noProcess e)
+
+pub same-absent : (d : Domain) → image (clearPresence d) ≡ image d
+same-absent d = simp (map-again row absent (d .processes) (λ _. refl))
+
+-- ---- the reference's step at the image. A retire frees, and a manage does all that it does, after this
+
+abbrev pub before : Kind → Domain → Step → Domain
+before k d s = cond (is k Retire) (marked d s) (cond (is k Manage) d (act k d s .after))
+
+pub follow-as : (k : Kind) (d : Domain) (s : Step) → follow (image d) (commandOf (atKind k s)) ≡ image (before k d s)
+unfolding follow
+follow-as Allocate d s = simp map-set
+follow-as Publish d s = simp (cell-at, map-set)
+follow-as Protect d s = simp (row-at, map-set)
+follow-as Check d s = simp (row-at, pointer-at, map-set)
+follow-as Use d s = refl
+follow-as Clear d s = simp (row-at, map-set)
+follow-as Remove d s = simp (cell-at, map-set)
+follow-as Retire d s = simp (cell-at, map-set)
+follow-as Drain d s = sym (same-row d (s .process) _ (row-drained (here d s) (here d s .buffer)))
+follow-as Flush d s = sym (same-row d (s .process) _ (row-flushed (here d s) (here d s .buffer)))
+follow-as Tick d s = refl
+follow-as Manage d s = refl
+follow-as ClearPresence d s = sym (same-absent d)
+follow-as Unknown d s = refl
+
+-- the value of a use
+pub value-at : (d : Domain) (s : Step) → valueOf (image d) (commandOf s) ≡ target d s .guest
+unfolding valueOf
+value-at d s =
+    ap (λ x. cellAt (image d) (x .assigned - 1) .guest) (pointer-there d (s .process) (s .hazard)) ∙ ap (λ n. n .guest) (cell-at (d .nodes) _)
+
+pub image-fresh : (a : Params) → initial (a .processes) (a .hazards) (a .nodes) ≡ image (fresh a)
+unfolding initial fresh
+image-fresh a = simp map-replicate
