@@ -1,0 +1,52 @@
+-- Kinds and their numbers: to test the number of a step is to test its kind. Assumes nothing.
+use Prim.Native.Nat.{ℕ}
+use mathlib.Core.Bool.{Bool, true, false, cond, false≢true}
+use mathlib.Core.Path.{_≡_, refl, sym, _∙_, ap}
+use mathlib.Core.Logic.{_≢_}
+use borrow.Author.Tests.{eqb-true, eqb-false, ne-eqb}
+use lib.Dec.{eqb}
+use Rattle.lists.proofs.Bools.{by-cond}
+use Rattle.model.specs.Kinds.{Kind, kindOf, numberOf, is, Allocate, Publish, Protect, Check, Use, Clear}
+use Rattle.model.specs.Kinds.{Remove, Retire, Drain, Flush, Tick, Manage, ClearPresence, Unknown}
+
+-- from a kind to its number and back
+pub kind-of-number : (k : Kind) → kindOf (numberOf k) ≡ k
+kind-of-number Allocate = refl
+kind-of-number Publish = refl
+kind-of-number Protect = refl
+kind-of-number Check = refl
+kind-of-number Use = refl
+kind-of-number Clear = refl
+kind-of-number Remove = refl
+kind-of-number Retire = refl
+kind-of-number Drain = refl
+kind-of-number Flush = refl
+kind-of-number Tick = refl
+kind-of-number Manage = refl
+kind-of-number ClearPresence = refl
+kind-of-number Unknown = refl
+
+-- from a number to its kind and back, where the kind is known
+abbrev Numbered : ℕ → Kind → Type 0
+Numbered n k = is k Unknown ≡ false → numberOf k ≡ n
+
+pub number-of-kind : (n : ℕ) → Numbered n (kindOf n)
+number-of-kind n =
+    try Allocate _ (try Publish _ (try Protect _ (try Check _ (try Use _ (try Clear _ (try Remove _
+    (try Retire _ (try Drain _ (try Flush _ (try Tick _ (try Manage _ (try ClearPresence Unknown
+    (λ e. absurd (false≢true (sym e)))))))))))))))
+  where
+    try : (k x : Kind) → Numbered n x → Numbered n (cond (eqb n (numberOf k)) k x)
+    try k x h = by-cond (Numbered n) (eqb n (numberOf k)) (λ e _. sym (eqb-true n (numberOf k) e)) (λ _. h)
+
+-- the test of a number, for every kind but Unknown
+pub same-kind : (n : ℕ) (j : Kind) → is j Unknown ≡ false → eqb n (numberOf j) ≡ is (kindOf n) j
+same-kind n j known = by (is (kindOf n) Unknown) refl
+  where
+    by : (b : Bool) → is (kindOf n) Unknown ≡ b → eqb n (numberOf j) ≡ is (kindOf n) j
+    by false e = ap (λ (m : ℕ). eqb m (numberOf j)) (sym (number-of-kind n e))
+    by true e =
+        let none : numberOf (kindOf n) ≡ 0 = eqb-true _ 0 e in
+        let other : numberOf (kindOf n) ≢ numberOf j = λ q. eqb-false (numberOf j) 0 known (sym q ∙ none) in
+        ne-eqb n (numberOf j) (λ q. other (ap numberOf (ap kindOf q ∙ kind-of-number j)))
+        ∙ sym (ne-eqb (numberOf (kindOf n)) (numberOf j) other)
