@@ -4,3 +4,4 @@ pub mod Unread
 pub mod KindNumbers
 pub mod Reclaims
 pub mod Panel
+pub mod Freed

@@ -200,7 +200,8 @@ keep-act Publish d s w a =
     keep-node w (s .node) (publishing (nodeOf d (s .node))) (omega (arith, w .params, n .unretired (omega (arith, a .state _ refl))))
 keep-act Protect d s w a =
     keep-process w (s .process) _
-    (fits-assigning (process-fits w (s .process) (a .process refl)) (s .hazard) (suc (s .node)) (a .hazard refl) (a .node refl) (a .room refl))
+    (fits-assigning (process-fits w (s .process) (a .process refl)) (s .hazard) (suc (s .node)) (a .hazard refl) (a .node refl)
+    (a .room refl))
 keep-act Check d s w a =
     keep-process w (s .process) _
     (fits-validating (process-fits w (s .process) (a .process refl)) (s .hazard) (a .hazard refl) (a .assigned refl))
@@ -230,10 +231,12 @@ keep-act Manage d s w a =
     let l = a .process refl in
     let f = process-fits w p l in
     let o = f .words in
-    let called : WellFormed (counted d s 0 1) = keep-process w p _ (fits-words f _ 0 1 (o .epoch) (w .params .quiescenceThreshold .0) (omega arith)) in
+    let some' = w .params .quiescenceThreshold .0 in
+    let called : WellFormed (counted d s 0 1) = keep-process w p _ (fits-words f _ 0 1 (o .epoch) some' (omega arith)) in
     by-manage (λ e. WellFormed (e .after)) d s
     (λ _ _ _. keep-quiescent (keep-path called Fast (omega arith)) p l) (λ _ _ _. called) (λ _ _. keep-quiescent called p l)
-    (λ _. keep-process w p _ (fits-words f _ (calledBy d s) _ (o .epoch) (mod-lt (here d s .calls + 1) (w .params .quiescenceThreshold .0)) (o .presence)))
+    (λ _. keep-process w p _
+    (fits-words f _ (calledBy d s) _ (o .epoch) (mod-lt (here d s .calls + 1) some') (o .presence)))
 keep-act ClearPresence d s w a = keep-absent w
 keep-act Unknown d s w a = w
 
