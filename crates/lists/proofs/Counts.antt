@@ -1,4 +1,4 @@
--- Counts: of a weaker test, of an image, of a store. Assumes nothing.
+-- Counts: of a weaker test, of an image, of a store, and place by place. Assumes nothing.
 use Prim.Native.Nat.{ℕ, zero, suc, _+_, _<_, _≤_}
 use mathlib.Core.Bool.{Bool, true, false, cond, false≢true}
 use mathlib.Core.List.{List, [], _∷_, map}

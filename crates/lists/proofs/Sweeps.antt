@@ -19,6 +19,7 @@ module _ {A : Type 0} (z : A) (f : ℕ → A → Bool) where
   sweep-at P i (x ∷ xs) (suc c) new old =
       sweep-at P (suc i) xs c (λ e. new (subst (λ (k : ℕ). f k (getD xs c z) ≡ true) (suc-add i c ∙ sym (add-suc i c)) e)) old
 
+  -- what stands at a place afterwards, past the end too
   pub sweep-is : (i : ℕ) (l : List A) (c : ℕ)
       → getD (sweepFrom z f i l) c z ≡ cond (f (i + c) (getD l c z)) z (getD l c z)
   sweep-is i [] c = by-cond (λ x. z ≡ x) (f (i + c) z) (λ _. refl) (λ _. refl)
@@ -51,7 +52,7 @@ module _ {A : Type 0} (z : A) (f : ℕ → A → Bool) where
       by true q = rw k (omega arith)
       by false q = omega arith
 
--- a sweep of nothing, and its count
+-- a sweep of nothing
 pub sweep-none : {A : Type 0} (z : A) (i : ℕ) (l : List A) → sweepFrom z (λ _ _. false) i l ≡ l
 sweep-none z i [] = refl
 sweep-none z i (x ∷ xs) = ap (λ r. x ∷ r) (sweep-none z (suc i) xs)
