@@ -1,5 +1,5 @@
 -- Case analysis on a test, and what a compound test says of its parts. Assumes nothing.
-use mathlib.Core.Bool.{Bool, true, false, _&&_, cond, false≢true}
+use mathlib.Core.Bool.{Bool, true, false, not, _&&_, cond, false≢true}
 use mathlib.Core.Path.{_≡_, refl}
 use Rattle.lists.specs.Tests.{implies}
 
@@ -19,3 +19,9 @@ implied false b h e = absurd (false≢true e)
 pub imply : (a b : Bool) → (a ≡ true → b ≡ true) → implies a b ≡ true
 imply true b f = f refl
 imply false b f = refl
+
+-- a test that holds only where another does leaves nothing without that
+pub not-alone : (a b : Bool) → (b ≡ true → a ≡ true) → (not a && b) ≡ false
+not-alone true b f = refl
+not-alone false true f = absurd (false≢true (f refl))
+not-alone false false f = refl

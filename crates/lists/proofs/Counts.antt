@@ -1,11 +1,12 @@
--- Counts: of a weaker test, of an image, of a store. Assumes nothing.
+-- Counts: of a weaker test, of an image, of a store, and place by place. Assumes nothing.
 use Prim.Native.Nat.{ℕ, zero, suc, _+_, _<_, _≤_}
 use mathlib.Core.Bool.{Bool, true, false, cond, false≢true}
 use mathlib.Core.List.{List, [], _∷_, map}
-use mathlib.Core.Path.{_≡_, refl, ap}
+use mathlib.Core.Path.{_≡_, refl, sym, _∙_, ap, subst}
 use native.Mathlib.Omega.{arith}
+use native.Mathlib.Nat.{suc-add, add-suc, add-zero}
 use lib.ListN.{length, getD, set, replicate}
-use Rattle.lists.specs.Tests.{count}
+use Rattle.lists.specs.Tests.{count, countFrom}
 
 -- at most one more where the second test holds too
 one-le : (a b : Bool) (m n : ℕ) → (a ≡ true → b ≡ true) → m ≤ n → cond a 1 0 + m ≤ cond b 1 0 + n
@@ -51,3 +52,20 @@ count-set-one f (x ∷ xs) zero a = by (f a) (f x) (count f xs)
     by false true n = omega arith
     by false false n = omega arith
 count-set-one f (x ∷ xs) (suc i) a = let h = count-set-one f xs i a in omega arith
+
+-- no place passes
+pub count-none : {A : Type 0} (i : ℕ) (l : List A) → countFrom (λ _ _. false) i l ≡ 0
+count-none i [] = refl
+count-none i (x ∷ xs) = omega (arith, count-none (suc i) xs)
+
+-- two counts, of lists as long as each other, place by place
+pub count-places : {A B : Type 0} (f : ℕ → A → Bool) (g : ℕ → B → Bool) (i : ℕ) (l : List A) (m : List B) (a : A) (b : B)
+    → length l ≡ length m → ((c : ℕ) → f (i + c) (getD l c a) ≡ g (i + c) (getD m c b)) → countFrom f i l ≡ countFrom g i m
+count-places f g i [] [] a b e h = refl
+count-places f g i [] (y ∷ ys) a b e h = absurd (omega arith)
+count-places f g i (x ∷ xs) [] a b e h = absurd (omega arith)
+count-places f g i (x ∷ xs) (y ∷ ys) a b e h =
+    let here : f i x ≡ g i y = rw add-zero at (h 0) in
+    let rest = count-places f g (suc i) xs ys a b (omega arith)
+    (λ c. subst (λ (k : ℕ). f k (getD xs c a) ≡ g k (getD ys c b)) (add-suc i c ∙ sym (suc-add i c)) (h (suc c))) in
+    λ t. cond {A = ℕ} (here t) 1 0 + rest t

@@ -10,6 +10,7 @@ use lib.ListN.{length, getD}
 use lib.Dec.{eqb}
 use Rattle.lists.specs.Tests.{lacks, countFrom}
 use Rattle.lists.proofs.Facts.{every-at}
+use Rattle.lists.proofs.Counts.{count-none}
 
 pub lacks-at : (l : List ℕ) (i v : ℕ) → lacks l v ≡ true → v ≢ 0 → getD l i 0 ≢ v
 lacks-at l i v h z = eqb-false _ v (not-true _ (every-at (λ u. not (eqb u v)) l i 0 h (rw (ne-eqb 0 v (λ e. z (sym e))))))
@@ -52,11 +53,7 @@ module _ {A : Type 0} where
       by true e h = let q = eqb-true v (suc i) e in omega (arith, past v (suc i) ns (omega arith))
       by false e h = omega arith
 
-  none : (i : ℕ) (l : List A) → countFrom (λ _ _. false) i l ≡ 0
-  none i [] = refl
-  none i (n ∷ ns) = omega (arith, none (suc i) ns)
-
   pub named-places : (vs : List ℕ) (i : ℕ) (l : List A) → countFrom (λ c _. not (lacks vs (suc c))) i l ≤ length vs
-  named-places [] i l = omega (arith, none i l)
+  named-places [] i l = omega (arith, count-none i l)
   named-places (v ∷ vs) i l =
       omega (arith, either (λ c. not (eqb v (suc c))) (λ c. lacks vs (suc c)) i l, single v i l, named-places vs i l)

@@ -21,6 +21,14 @@ module _ {A : Type 0} (z : A) (f : ℕ → A → Bool) where
   sweep-at P i (x ∷ xs) (suc c) new old =
       sweep-at P (suc i) xs c (λ e. new (subst (λ (k : ℕ). f k (getD xs c z) ≡ true) (suc-add i c ∙ sym (add-suc i c)) e)) old
 
+  -- what stands at a place afterwards, past the end too
+  pub sweep-is : (i : ℕ) (l : List A) (c : ℕ)
+      → getD (sweepFrom z f i l) c z ≡ cond (f (i + c) (getD l c z)) z (getD l c z)
+  sweep-is i [] c = by-cond (λ x. z ≡ x) (f (i + c) z) (λ _. refl) (λ _. refl)
+  sweep-is i (x ∷ xs) zero = rw (add-zero i)
+  sweep-is i (x ∷ xs) (suc c) =
+      sweep-is (suc i) xs c ∙ ap (λ (k : ℕ). cond (f k (getD xs c z)) z (getD xs c z)) (suc-add i c ∙ sym (add-suc i c))
+
   pub sweep-length : (i : ℕ) (l : List A) → length (sweepFrom z f i l) ≡ length l
   sweep-length i [] = refl
   sweep-length i (x ∷ xs) = ap suc (sweep-length (suc i) xs)
@@ -45,6 +53,11 @@ module _ {A : Type 0} (z : A) (f : ℕ → A → Bool) where
           → cond (g (cond b z x)) 1 0 + count g (sweepFrom z f (suc i) xs) ≤ cond (g x) 1 0 + count g xs
       by true q = rw k (omega arith)
       by false q = omega arith
+
+-- a sweep of nothing
+pub sweep-none : {A : Type 0} (z : A) (i : ℕ) (l : List A) → sweepFrom z (λ _ _. false) i l ≡ l
+sweep-none z i [] = refl
+sweep-none z i (x ∷ xs) = ap (λ r. x ∷ r) (sweep-none z (suc i) xs)
 
 -- as many places as are counted
 pub places-length : {A : Type 0} (f : ℕ → A → Bool) (i : ℕ) (l : List A) → length (placesFrom f i l) ≡ countFrom f i l

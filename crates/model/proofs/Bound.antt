@@ -15,9 +15,8 @@ use Rattle.lists.proofs.Sweeps.{count-sweep, count-left, sweep-within}
 use Rattle.lists.proofs.Pigeonhole.{named-places}
 use Rattle.model.specs.Params.{Params, delay}
 use Rattle.model.specs.State.{Node, Domain, Step, Fast, freeNode, nodeOf, withPath}
-use Rattle.model.specs.Kinds.{Kind, kindOf, numberOf, Allocate, Publish, Protect, Check, Use, Clear, Remove}
-use Rattle.model.specs.Kinds.{Retire}
-use Rattle.model.specs.Kinds.{Drain, Flush, Tick, Manage, ClearPresence, Unknown}
+use Rattle.model.specs.Kinds.{Kind, kindOf, numberOf, Allocate, Publish, Protect, Check, Use, Clear}
+use Rattle.model.specs.Kinds.{Remove, Retire, Drain, Flush, Tick, Manage, ClearPresence, Unknown}
 use Rattle.model.specs.Hazards.{here}
 use Rattle.model.specs.Retire.{retiredBy, aged, visibleTo, due, dueIn, freeing, scan, retiring, marked}
 use Rattle.model.specs.Retire.{overfull, fallBack, reclaim}

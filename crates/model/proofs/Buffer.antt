@@ -11,11 +11,11 @@ use Rattle.lists.specs.Tests.{every}
 use Rattle.lists.proofs.Facts.{all-snoc, all-test, every-at}
 use Rattle.lists.proofs.Stores.{set-cases}
 use Rattle.model.specs.Params.{delay}
-use Rattle.model.specs.State.{Pending, Hazard, Process, Node, Domain, Step, Reachable, emptyHazard, freeNode}
-use Rattle.model.specs.State.{noProcess, processOf, withClock, setProcess, inEpochs}
+use Rattle.model.specs.State.{Pending, Hazard, Process, Node, Domain, Step, Reachable, emptyHazard}
+use Rattle.model.specs.State.{freeNode, noProcess, processOf, withClock, setProcess, inEpochs}
 use Rattle.model.specs.Hazards.{here, pending, assigning, assign, committing, drained, flushed, young}
-use Rattle.model.proofs.Invariant.{hazardIn, latest, Timely, Held, ProcessInv, ProcessWith, ProcessOk, Near}
-use Rattle.model.proofs.Invariant.{Inv}
+use Rattle.model.proofs.Invariant.{hazardIn, latest, Timely, Held, ProcessInv, ProcessWith, ProcessOk}
+use Rattle.model.proofs.Invariant.{Near, Inv}
 use Rattle.model.proofs.Updates.{set-process}
 
 latest-snoc : (b : List Pending) (e : Pending) (h v : ℕ) → latest (b ++ (e ∷ [])) h v ≡ cond (eqb (e .hazard) h) (e .node) (latest b h v)

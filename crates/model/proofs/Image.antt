@@ -10,16 +10,15 @@ use lib.Seq.{map-set-same}
 use Rattle.lists.specs.Tests.{every}
 use Rattle.lists.proofs.Stores.{map-set, map-replicate, map-again}
 use Rattle.model.specs.Params.{Params}
-use Rattle.model.specs.State.{Pending, Hazard, Process, Node, Domain, Step, emptyHazard, noProcess, freeNode}
-use Rattle.model.specs.State.{processOf, hazardOf}
-use Rattle.model.specs.State.{setProcess, absent, clearPresence}
+use Rattle.model.specs.State.{Pending, Hazard, Process, Node, Domain, Step, emptyHazard, noProcess}
+use Rattle.model.specs.State.{freeNode, processOf, hazardOf, setProcess, absent, clearPresence}
 use Rattle.model.specs.Kinds.{Kind, is, Allocate, Publish, Protect, Check, Use, Clear, Remove, Retire}
 use Rattle.model.specs.Kinds.{Drain, Flush, Tick, Manage, ClearPresence, Unknown}
 use Rattle.model.specs.Hazards.{here, target, committing, drained, flushed}
 use Rattle.model.specs.Retire.{marked}
 use Rattle.model.specs.Machine.{act, fresh}
-use Rattle.model.specs.Reference.{Cell, Pointer, Reference, emptyCell, emptyPointer, initial, cellAt, pointerAt}
-use Rattle.model.specs.Reference.{asks, follow, valueOf}
+use Rattle.model.specs.Reference.{Cell, Pointer, Reference, emptyCell, emptyPointer, initial, cellAt}
+use Rattle.model.specs.Reference.{pointerAt, asks, follow, valueOf}
 use Rattle.model.specs.Claims.{Agrees, commandOf}
 use Rattle.model.proofs.Walk.{Asked}
 use Rattle.model.proofs.KindNumbers.{atKind}

@@ -10,8 +10,7 @@ use lib.Dec.{eqb}
 use Rattle.lists.specs.Tests.{All}
 use Rattle.model.specs.Params.{delay}
 use Rattle.model.specs.State.{Pending, Hazard, Process, Node, Domain, Reachable, Retired, emptyHazard}
-use Rattle.model.specs.State.{noProcess}
-use Rattle.model.specs.State.{freeNode, processOf, hazardOf, inEpochs, nextEpoch}
+use Rattle.model.specs.State.{noProcess, freeNode, processOf, hazardOf, inEpochs, nextEpoch}
 
 -- N processes of K hazards each, and M nodes
 pub record Shaped (d : Domain) : Type 0 where

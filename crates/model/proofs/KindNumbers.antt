@@ -7,8 +7,8 @@ use borrow.Author.Tests.{eqb-true, eqb-false, ne-eqb}
 use lib.Dec.{eqb}
 use Rattle.lists.proofs.Bools.{by-cond}
 use Rattle.model.specs.State.{Step}
-use Rattle.model.specs.Kinds.{Kind, kindOf, numberOf, is, Allocate, Publish, Protect, Check, Use, Clear, Remove}
-use Rattle.model.specs.Kinds.{Retire, Drain, Flush, Tick, Manage, ClearPresence, Unknown}
+use Rattle.model.specs.Kinds.{Kind, kindOf, numberOf, is, Allocate, Publish, Protect, Check, Use, Clear}
+use Rattle.model.specs.Kinds.{Remove, Retire, Drain, Flush, Tick, Manage, ClearPresence, Unknown}
 
 -- from a kind to its number and back
 pub kind-of-number : (k : Kind) → kindOf (numberOf k) ≡ k

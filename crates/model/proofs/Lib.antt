@@ -1,5 +1,10 @@
 pub mod Walk
 pub mod KindNumbers
+pub mod Unread
+pub mod WellFormed
+pub mod Reclaims
+pub mod Panel
+pub mod Freed
 pub mod Invariant
 pub mod Updates
 pub mod Buffer
@@ -9,3 +14,4 @@ pub mod Image
 pub mod Simulation
 pub mod Bound
 pub mod Demand3
+pub mod Theorems

@@ -19,8 +19,8 @@ use Rattle.model.specs.Machine.{act, allocating, step, stepAs, fresh}
 use Rattle.model.proofs.Walk.{Asked, by-step, by-reclaim, by-manage}
 use Rattle.model.proofs.Invariant.{Near, ProcessOk, Inv}
 use Rattle.model.proofs.Updates.{set-node, with-path, clear-presence}
-use Rattle.model.proofs.Buffer.{hazards-here, keep-process, assign-keeps, validate-ok, drain-ok, flush-ok}
-use Rattle.model.proofs.Buffer.{tick-ok}
+use Rattle.model.proofs.Buffer.{hazards-here, keep-process, assign-keeps, validate-ok, drain-ok}
+use Rattle.model.proofs.Buffer.{flush-ok, tick-ok}
 use Rattle.model.proofs.Reclaim.{scan-ok, quiescent-ok, marked-ok}
 
 abbrev Keeps : Effect → Type 0

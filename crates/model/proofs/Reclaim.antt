@@ -14,12 +14,11 @@ use Rattle.lists.proofs.Bools.{both, by-cond, implied}
 use Rattle.lists.proofs.Facts.{all-map, every-at, every-in, every-append}
 use Rattle.lists.proofs.Pigeonhole.{lacks-at}
 use Rattle.model.specs.Params.{delay}
-use Rattle.model.specs.State.{Pending, Process, Node, Domain, Step, Retired, emptyHazard, noProcess, nodeOf}
-use Rattle.model.specs.State.{processOf, hazardOf}
-use Rattle.model.specs.State.{withEpoch, inEpochs, nextEpoch}
+use Rattle.model.specs.State.{Pending, Process, Node, Domain, Step, Retired, emptyHazard, noProcess}
+use Rattle.model.specs.State.{nodeOf, processOf, hazardOf, withEpoch, inEpochs, nextEpoch}
 use Rattle.model.specs.Hazards.{here, unassigned}
-use Rattle.model.specs.Retire.{retiredBy, visibleIn, visibleFrom, visibleTo, aged, due, within, dueIn, freeing}
-use Rattle.model.specs.Retire.{scan, retiring, marked}
+use Rattle.model.specs.Retire.{retiredBy, visibleIn, visibleFrom, visibleTo, aged, due, within, dueIn}
+use Rattle.model.specs.Retire.{freeing, scan, retiring, marked}
 use Rattle.model.specs.Epochs.{expired, caughtUp, quiescent}
 use Rattle.model.proofs.Walk.{by-quiescent}
 use Rattle.model.proofs.Invariant.{latest, Timely, epochIn, Inv, Claim}

@@ -14,19 +14,20 @@ use Rattle.lists.specs.Tests.{every}
 use Rattle.lists.specs.Sweep.{sweepFrom, placesFrom}
 use Rattle.lists.proofs.Sweeps.{places-length}
 use Rattle.model.specs.State.{Node, Domain, Step, Fast, Fallback, Retired, freeNode, nodeOf, withPath}
-use Rattle.model.specs.Kinds.{Kind, kindOf, numberOf, Allocate, Publish, Protect, Check, Use, Clear, Remove}
-use Rattle.model.specs.Kinds.{Retire}
-use Rattle.model.specs.Kinds.{Drain, Flush, Tick, Manage, ClearPresence, Unknown}
+use Rattle.model.specs.Kinds.{Kind, kindOf, numberOf, Allocate, Publish, Protect, Check, Use, Clear}
+use Rattle.model.specs.Kinds.{Remove, Retire, Drain, Flush, Tick, Manage, ClearPresence, Unknown}
 use Rattle.model.specs.Retire.{Effect, effect, dueIn, freeing, scan, marked, fallBack, reclaim}
 use Rattle.model.specs.Epochs.{expired, quiescent, counted, manage}
 use Rattle.model.specs.Machine.{Outcome, refused, accepted, act, step}
-use Rattle.model.specs.Reference.{Cell, Reference, emptyCell, pointerAt, asks, valueOf, freeEach, EachFreeable}
+use Rattle.model.specs.Reference.{Cell, Reference, emptyCell, pointerAt, asks, valueOf, freeEach}
+use Rattle.model.specs.Reference.{EachFreeable}
 use Rattle.model.specs.Claims.{commandOf, led, freedCount}
 use Rattle.model.proofs.Walk.{Asked, by-step, by-reclaim, by-quiescent, by-manage}
 use Rattle.model.proofs.KindNumbers.{atKind, at-kind}
 use Rattle.model.proofs.Invariant.{Inv, Claim}
 use Rattle.model.proofs.Updates.{with-path}
-use Rattle.model.proofs.Reclaim.{due-unclaimed, due-retired, expired-unclaimed, expired-retired, marked-ok}
+use Rattle.model.proofs.Reclaim.{due-unclaimed, due-retired, expired-unclaimed, expired-retired}
+use Rattle.model.proofs.Reclaim.{marked-ok}
 use Rattle.model.proofs.Preserved.{fall-back, counted-ok}
 use Rattle.model.proofs.Image.{cell, image, before, pointer-there, yes-as, follow-as, value-at, same-row}
 use Rattle.model.proofs.Image.{same-absent}

@@ -8,9 +8,11 @@ use lib.ListN.{length, getD, set, length-set, length-map, List·getD-map}
 use Rattle.lists.specs.Sweep.{sweepFrom}
 use Rattle.lists.proofs.Stores.{set-cases, set-keeps}
 use Rattle.lists.proofs.Sweeps.{sweep-at, sweep-length}
-use Rattle.model.specs.State.{Pending, Hazard, Process, Node, Domain, noProcess, freeNode, nodeOf, processOf}
-use Rattle.model.specs.State.{withNodes, withPath, setNode, setProcess, inEpochs, absent, clearPresence}
-use Rattle.model.proofs.Invariant.{Inv, ProcessInv, ProcessOk, Claim, Held, HeldBy, Near, epochIn, hazardIn}
+use Rattle.model.specs.State.{Pending, Hazard, Process, Node, Domain, noProcess, freeNode, nodeOf}
+use Rattle.model.specs.State.{processOf, withNodes, withPath, setNode, setProcess, inEpochs, absent}
+use Rattle.model.specs.State.{clearPresence}
+use Rattle.model.proofs.Invariant.{Inv, ProcessInv, ProcessOk, Claim, Held, HeldBy, Near, epochIn}
+use Rattle.model.proofs.Invariant.{hazardIn}
 
 -- with other local epochs: those that had come to the global one still have
 with-epochs : {clock wait g : ℕ} {ep ep' : ℕ → ℕ} {ns : List Node} {e : ℕ} {b : List Pending} {hs : List Hazard} {c : Bool}

@@ -12,11 +12,10 @@ use Rattle.lists.specs.Tests.{every}
 use Rattle.lists.proofs.Facts.{every-at}
 use Rattle.lists.proofs.Bools.{by-cond, both, implied, imply}
 use Rattle.model.specs.Params.{bufferSize, lastClock}
-use Rattle.model.specs.State.{Domain, Step, Reachable, Fast, Fallback, nodeOf, processOf, withPath, withEpoch}
-use Rattle.model.specs.State.{acts}
-use Rattle.model.specs.State.{nextEpoch}
-use Rattle.model.specs.Kinds.{Kind, is, means, rowOf, meets, Needed, Any, Exactly, ProcessId, HazardId, NodeId}
-use Rattle.model.specs.Kinds.{Protect, Check, Use, Clear, Drain, Tick, Manage, Unknown}
+use Rattle.model.specs.State.{Domain, Step, Reachable, Fast, Fallback, nodeOf, processOf, withPath}
+use Rattle.model.specs.State.{withEpoch, acts, nextEpoch}
+use Rattle.model.specs.Kinds.{Kind, is, means, rowOf, meets, Needed, Any, Exactly, ProcessId, HazardId}
+use Rattle.model.specs.Kinds.{NodeId, Protect, Check, Use, Clear, Drain, Tick, Manage, Unknown}
 use Rattle.model.specs.Hazards.{here, pointer, target, young, unassigned}
 use Rattle.model.specs.Retire.{Effect, effect, scan, overfull, fallBack, reclaim}
 use Rattle.model.specs.Epochs.{caughtUp, adopt, quiescent, allPresent, calledBy, counted, manage}

@@ -13,8 +13,8 @@ use Rattle.model.specs.State.{Domain, Step, Free, Reachable, nodeOf, pro
 use Rattle.model.specs.WellFormed.{WellFormed}
 use Rattle.model.specs.Kinds.{Meaning, means, rowOf, kindOf, Unread}
 use Rattle.model.specs.Machine.{Outcome, step, run, fresh}
-use Rattle.model.specs.Reference.{Cell, Reference, Command, initial, cellAt, rowAt, pointerAt}
-use Rattle.model.specs.Reference.{asks, follow, valueOf, freeEach, EachFreeable}
+use Rattle.model.specs.Reference.{Cell, Reference, Command, initial, cellAt, rowAt, pointerAt, asks}
+use Rattle.model.specs.Reference.{follow, valueOf, freeEach, EachFreeable}
 
 -- ---- Refusals and unread fields
 
@@ -73,7 +73,7 @@ abbrev pub turnedFree : Domain → Domain → ℕ
 turnedFree d d' = countFrom (λ c n. not (eqb (n .state) Free) && eqb (nodeOf d' c .state) Free) 0 (d .nodes)
 
 abbrev pub FreedAreCounted : Type 0
-FreedAreCounted = (d : Domain) (s : Step) → WellFormed d → turnedFree d (step d s .after) ≡ freedCount s (step d s)
+FreedAreCounted = (d : Domain) (s : Step) → turnedFree d (step d s .after) ≡ freedCount s (step d s)
 
 -- ---- Demand 3: one claim about a whole list of steps
 

@@ -5,8 +5,8 @@ use mathlib.Core.List.{List, [], _∷_}
 use lib.ListN.{replicate}
 use lib.Dec.{eqb}
 use Rattle.model.specs.Params.{Params}
-use Rattle.model.specs.State.{Node, Domain, Step, Allocated, Reachable, Removed, Fast, freeNode, emptyHazard}
-use Rattle.model.specs.State.{nodeOf, setNode, setProcess, withClock, clearPresence}
+use Rattle.model.specs.State.{Node, Domain, Step, Allocated, Reachable, Removed, Fast, freeNode}
+use Rattle.model.specs.State.{emptyHazard, nodeOf, setNode, setProcess, withClock, clearPresence}
 use Rattle.model.specs.Kinds.{Kind, kindOf, Allocate, Publish, Protect, Check, Use, Clear, Remove, Retire}
 use Rattle.model.specs.Kinds.{Drain, Flush, Tick, Manage, ClearPresence, Unknown}
 use Rattle.model.specs.Hazards.{here, target, assign, validating, drained, flushed}

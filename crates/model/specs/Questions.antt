@@ -7,8 +7,8 @@ use lib.Dec.{ltb, eqb}
 use Rattle.lists.specs.Tests.{every, implies}
 use Rattle.model.specs.Params.{bufferSize, lastClock}
 use Rattle.model.specs.State.{Domain, Step, Reachable, nodeOf}
-use Rattle.model.specs.Kinds.{Kind, is, means, meets, rowOf, ProcessId, HazardId, NodeId}
-use Rattle.model.specs.Kinds.{Protect, Check, Use, Clear, Drain, Tick, Manage, Unknown}
+use Rattle.model.specs.Kinds.{Kind, is, means, meets, rowOf, ProcessId, HazardId, NodeId, Protect, Check}
+use Rattle.model.specs.Kinds.{Use, Clear, Drain, Tick, Manage, Unknown}
 use Rattle.model.specs.Hazards.{here, pointer, target, young, unassigned}
 
 -- a question by its number, and whether its answer is yes

@@ -1,0 +1,93 @@
+-- The freed count that a step reports is the number of nodes that it turned Free; the other steps turn none. Assumes nothing.
+use Prim.Native.Nat.{ℕ}
+use mathlib.Core.Bool.{Bool, true, false, not, _&&_, _||_, cond}
+use mathlib.Core.List.{List}
+use mathlib.Core.Path.{_≡_, refl, sym, _∙_, ap}
+use mathlib.Core.Logic.{_≢_}
+use native.Mathlib.Omega.{arith}
+use native.Mathlib.Nat.{zero-add}
+use borrow.Author.Tests.{ne-eqb, eq-eqb, eqb-true}
+use lib.ListN.{length, getD, length-set}
+use lib.Dec.{eqb}
+use Rattle.lists.proofs.Bools.{not-alone}
+use Rattle.lists.proofs.Stores.{set-keeps}
+use Rattle.lists.proofs.Counts.{count-places}
+use Rattle.lists.proofs.Sweeps.{sweep-is}
+use Rattle.model.specs.Params.{Params}
+use Rattle.model.specs.State.{Node, Domain, Step, Free, Retired, freeNode, nodeOf, setNode}
+use Rattle.model.specs.Kinds.{Kind, kindOf, is, Allocate, Publish, Protect, Check, Use, Clear, Remove}
+use Rattle.model.specs.Kinds.{Retire, Drain, Flush, Tick, Manage, ClearPresence, Unknown}
+use Rattle.model.specs.Retire.{Effect, marked}
+use Rattle.model.specs.Machine.{act, stepAs, step}
+use Rattle.model.specs.Claims.{turnedFree, reportsFreed, FreedAreCounted}
+use Rattle.model.proofs.Walk.{Asked, by-step}
+use Rattle.model.proofs.KindNumbers.{same-kind}
+use Rattle.model.proofs.Reclaims.{Reclaims, reclaims-none, reclaim-reclaims, manage-reclaims}
+
+-- what a node that became n may have been: nothing but a Free node becomes Free, and no Free node Retired
+record Was (before n : Node) : Type 0 where
+  free : n .state ≡ Free → before .state ≡ Free
+  retired : n .state ≡ Retired → before .state ≢ Free
+
+-- at one place: the node before, the node to be swept, and the test
+turned : (before n : Node) (b : Bool) → Was before n → (b ≡ true → n .state ≡ Retired)
+    → (not (eqb (before .state) Free) && eqb (cond b freeNode n .state) Free) ≡ b
+turned before n true w r = rw (ne-eqb _ _ (w .retired (r refl)))
+turned before n false w r =
+    not-alone (eqb (before .state) Free) (eqb (n .state) Free) (λ e. eq-eqb _ _ (w .free (eqb-true _ _ e)))
+
+-- nodes ns that came from those of d, and what is swept of them
+turned-sweep : (d : Domain) {a : Params} {ns : List Node} (e : Effect) → Reclaims a ns e → length (d .nodes) ≡ length ns
+    → ((c : ℕ) → Was (nodeOf d c) (getD ns c freeNode)) → turnedFree d (e .after) ≡ e .value
+turned-sweep d {ns = ns} e r many was =
+    count-places _ (r .test) 0 (d .nodes) ns freeNode freeNode many
+    (λ c. rw (zero-add c, left c) (turned (nodeOf d c) (getD ns c freeNode) _ (was c) (r .retired c _))) ∙ sym (r .value)
+  where
+    left : (c : ℕ) → nodeOf (e .after) c ≡ cond (r .test c (getD ns c freeNode)) freeNode (getD ns c freeNode)
+    left c = rw zero-add at (ap (λ l. getD l c freeNode) (r .nodes) ∙ sweep-is freeNode (r .test) 0 ns c)
+
+-- ---- A node is stored, or none
+
+set-was : (d : Domain) (c : ℕ) (n : Node) → Was (nodeOf d c) n → (j : ℕ) → Was (nodeOf d j) (nodeOf (setNode d c n) j)
+set-was d c n w j = set-keeps (Was (nodeOf d j)) (d .nodes) c j n freeNode (λ e _. rw e w) (omega arith)
+
+stored : (d : Domain) (c : ℕ) (n : Node) → Was (nodeOf d c) n → turnedFree d (setNode d c n) ≡ 0
+stored d c n w =
+    turned-sweep d _ (reclaims-none (setNode d c n)) (sym (length-set (d .nodes) c n)) (set-was d c n w)
+
+same : (d : Domain) → turnedFree d d ≡ 0
+same d = turned-sweep d _ (reclaims-none d) refl (λ c. omega arith)
+
+-- ---- A step
+
+freed : (k : Kind) (d : Domain) (s : Step) → Asked k d s
+    → turnedFree d (act k d s .after) ≡ cond (is k Retire || is k Manage) (act k d s .value) 0
+freed Allocate d s a = stored d (s .node) _ (omega arith)
+freed Publish d s a = stored d (s .node) _ (omega arith)
+freed Protect d s a = same d
+freed Check d s a = same d
+freed Use d s a = same d
+freed Clear d s a = same d
+freed Remove d s a = stored d (s .node) _ (omega arith)
+freed Retire d s a =
+    turned-sweep d _ (reclaim-reclaims (marked d s) (s .process)) (sym (length-set (d .nodes) (s .node) _))
+    (set-was d (s .node) _ (omega (arith, a .state _ refl)))
+freed Drain d s a = same d
+freed Flush d s a = same d
+freed Tick d s a = same d
+freed Manage d s a = turned-sweep d _ (manage-reclaims d s) refl (λ c. omega arith)
+freed ClearPresence d s a = same d
+freed Unknown d s a = same d
+
+-- of an outcome, whichever way retires and manages are told
+freed-as : (k : Kind) (reports : Bool) → reports ≡ (is k Retire || is k Manage) → (d : Domain) (s : Step)
+    → turnedFree d (stepAs k d s .after) ≡ cond (eqb (stepAs k d s .refusal) 0 && reports) (stepAs k d s .value) 0
+freed-as k reports e d s =
+    by-step k d s (λ o. turnedFree d (o .after) ≡ cond (eqb (o .refusal) 0 && reports) (o .value) 0)
+    (λ n z. rw (ne-eqb n 0 z) (same d)) (λ a. rw e (freed k d s a))
+
+pub freed-are-counted : FreedAreCounted
+unfolding step
+freed-are-counted d s =
+    freed-as (kindOf (s .kind)) (reportsFreed (s .kind))
+    (λ i. same-kind (s .kind) Retire refl i || same-kind (s .kind) Manage refl i) d s

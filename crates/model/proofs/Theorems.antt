@@ -1,0 +1,29 @@
+-- Each claim of specs/Claims.antt, with its proof. Assumes nothing.
+use Rattle.model.specs.Claims.{RefusedUnchanged, UnreadFields, FreshWellFormed, StepWellFormed, Panel}
+use Rattle.model.specs.Claims.{FreedAreCounted, Demand3}
+use Rattle.model.proofs.Unread as Unread
+use Rattle.model.proofs.WellFormed as WellFormed
+use Rattle.model.proofs.Panel as Counted
+use Rattle.model.proofs.Freed as Freed
+use Rattle.model.proofs.Demand3 as Follow
+
+pub refused-unchanged : RefusedUnchanged
+refused-unchanged = Unread.refused-unchanged
+
+pub unread-fields : UnreadFields
+unread-fields = Unread.unread-fields
+
+pub fresh-well-formed : FreshWellFormed
+fresh-well-formed = WellFormed.well-formed-fresh
+
+pub step-well-formed : StepWellFormed
+step-well-formed = WellFormed.well-formed-step
+
+pub panel : Panel
+panel = Counted.panel
+
+pub freed-are-counted : FreedAreCounted
+freed-are-counted = Freed.freed-are-counted
+
+pub demand-3 : Demand3
+demand-3 = Follow.demand-3
