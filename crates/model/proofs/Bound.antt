@@ -27,7 +27,7 @@ use Rattle.model.specs.Claims.{History, noHistory, noted, recorded, reti
 use Rattle.model.proofs.Walk.{Asked, by-step, by-reclaim, by-quiescent, by-manage}
 use Rattle.model.proofs.KindNumbers.{atKind, at-kind}
 use Rattle.model.proofs.Invariant.{Inv}
-use Rattle.model.proofs.Reclaim.{visible-count, marked-ok}
+use Rattle.model.proofs.Unclaimed.{visible-count, marked-ok}
 use Rattle.model.proofs.Preserved.{fall-back}
 
 -- the Retired nodes of p that were retired at a clock of at least t

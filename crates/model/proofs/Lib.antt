@@ -2,13 +2,13 @@ pub mod Walk
 pub mod KindNumbers
 pub mod Unread
 pub mod WellFormed
-pub mod Reclaims
+pub mod Freeing
 pub mod Panel
 pub mod Freed
 pub mod Invariant
 pub mod Updates
 pub mod Buffer
-pub mod Reclaim
+pub mod Unclaimed
 pub mod Preserved
 pub mod Image
 pub mod Simulation

@@ -20,7 +20,7 @@ use Rattle.model.specs.Machine.{Outcome, act, stepAs, step, run, fresh}
 use Rattle.model.specs.Claims.{reachableCount, acceptedOf, Panel}
 use Rattle.model.proofs.Walk.{Asked, by-step}
 use Rattle.model.proofs.KindNumbers.{same-kind}
-use Rattle.model.proofs.Reclaims.{Reclaims, reclaim-reclaims, manage-reclaims}
+use Rattle.model.proofs.Freeing.{Reclaims, reclaim-reclaims, manage-reclaims}
 
 abbrev reachable : Node → Bool
 reachable n = eqb (n .state) Reachable

@@ -21,7 +21,7 @@ use Rattle.model.proofs.Invariant.{Near, ProcessOk, Inv}
 use Rattle.model.proofs.Updates.{set-node, with-path, clear-presence}
 use Rattle.model.proofs.Buffer.{hazards-here, keep-process, assign-keeps, validate-ok, drain-ok}
 use Rattle.model.proofs.Buffer.{flush-ok, tick-ok}
-use Rattle.model.proofs.Reclaim.{scan-ok, quiescent-ok, marked-ok}
+use Rattle.model.proofs.Unclaimed.{scan-ok, quiescent-ok, marked-ok}
 
 abbrev Keeps : Effect → Type 0
 Keeps e = Inv (e .after)

@@ -26,8 +26,8 @@ use Rattle.model.proofs.Walk.{Asked, by-step, by-reclaim, by-quiescent,
 use Rattle.model.proofs.KindNumbers.{atKind, at-kind}
 use Rattle.model.proofs.Invariant.{Inv, Claim}
 use Rattle.model.proofs.Updates.{with-path}
-use Rattle.model.proofs.Reclaim.{due-unclaimed, due-retired, expired-unclaimed, expired-retired}
-use Rattle.model.proofs.Reclaim.{marked-ok}
+use Rattle.model.proofs.Freeing.{due-retired, expired-retired}
+use Rattle.model.proofs.Unclaimed.{due-unclaimed, expired-unclaimed, marked-ok}
 use Rattle.model.proofs.Preserved.{fall-back, counted-ok}
 use Rattle.model.proofs.Image.{cell, image, before, pointer-there, yes-as, follow-as, value-at, same-row}
 use Rattle.model.proofs.Image.{same-absent}

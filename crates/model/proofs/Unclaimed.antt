@@ -14,13 +14,14 @@ use Rattle.lists.proofs.Bools.{both, by-cond, implied}
 use Rattle.lists.proofs.Facts.{all-map, every-at, every-in, every-append}
 use Rattle.lists.proofs.Pigeonhole.{lacks-at}
 use Rattle.model.specs.Params.{delay}
-use Rattle.model.specs.State.{Pending, Process, Node, Domain, Step, Retired, emptyHazard, noProcess}
-use Rattle.model.specs.State.{nodeOf, processOf, hazardOf, withEpoch, inEpochs, nextEpoch}
+use Rattle.model.specs.State.{Pending, Process, Node, Domain, Step, emptyHazard, noProcess, nodeOf}
+use Rattle.model.specs.State.{processOf, hazardOf, withEpoch, inEpochs, nextEpoch}
 use Rattle.model.specs.Hazards.{here, unassigned}
 use Rattle.model.specs.Retire.{retiredBy, visibleIn, visibleFrom, visibleTo, aged, due, within, dueIn}
 use Rattle.model.specs.Retire.{freeing, scan, retiring, marked}
 use Rattle.model.specs.Epochs.{expired, caughtUp, quiescent}
 use Rattle.model.proofs.Walk.{by-quiescent}
+use Rattle.model.proofs.Freeing.{retired-by}
 use Rattle.model.proofs.Invariant.{latest, Timely, epochIn, Inv, Claim}
 use Rattle.model.proofs.Updates.{held-by, set-node, sweep-nodes, set-process}
 use Rattle.model.proofs.Buffer.{near-here}
@@ -60,15 +61,6 @@ settled clock wait at (w ∷ b) h v f k o =
     by-cond (λ u. latest b h u ≡ v) (eqb (w .hazard) h)
     (λ e. absurd (omega (arith, k .0 (eqb-true _ _ e), f .0 .recent)))
     (λ _. settled clock wait at b h v (f .1) (k .1) o)
-
-pub retired-by : (p : ℕ) (n : Node) → retiredBy p n ≡ true → (n .state ≡ Retired) × (n .owner ≡ p)
-retired-by p n h = let e = both (eqb (n .state) Retired) (eqb (n .owner) p) h in (eqb-true _ _ (e .0), eqb-true _ _ (e .1))
-
-pub due-retired : (d : Domain) (p a b c : ℕ) (n : Node) → dueIn d p a b c n ≡ true → n .state ≡ Retired
-due-retired d p a b c n h = retired-by p n (both (retiredBy p n) _ (both (within a b c) _ h .1) .0) .0
-
-pub expired-retired : (d : Domain) (p c : ℕ) (n : Node) → expired d p c n ≡ true → n .state ≡ Retired
-expired-retired d p c n h = retired-by p n (both (retiredBy p n) _ h .0) .0
 
 past-delay : (d : Domain) (n : Node) → aged d n ≡ true → n .retiredAt + delay (d .params) < d .clock
 past-delay d n h = omega (arith, ltb-true)

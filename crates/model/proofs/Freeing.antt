@@ -37,14 +37,20 @@ reclaims-none d =
 
 -- ---- A scan and an adoption free Retired nodes
 
-retired-state : (p : ℕ) (n : Node) → retiredBy p n ≡ true → n .state ≡ Retired
-retired-state p n h = eqb-true (n .state) Retired (both (eqb (n .state) Retired) _ h .0)
+pub retired-by : (p : ℕ) (n : Node) → retiredBy p n ≡ true → (n .state ≡ Retired) × (n .owner ≡ p)
+retired-by p n h = let e = both (eqb (n .state) Retired) (eqb (n .owner) p) h in (eqb-true _ _ (e .0), eqb-true _ _ (e .1))
+
+pub due-retired : (d : Domain) (p a b c : ℕ) (n : Node) → dueIn d p a b c n ≡ true → n .state ≡ Retired
+due-retired d p a b c n h = retired-by p n (both (retiredBy p n) _ (both (within a b c) _ h .1) .0) .0
+
+pub expired-retired : (d : Domain) (p c : ℕ) (n : Node) → expired d p c n ≡ true → n .state ≡ Retired
+expired-retired d p c n h = retired-by p n (both (retiredBy p n) _ h .0) .0
 
 scan-reclaims : (d : Domain) (p : ℕ) → Reclaims (d .params) (d .nodes) (scan d p)
 scan-reclaims d p =
     record {
       test = dueIn d p 0 (d .params .nodes);
-      retired = λ c n h. retired-state p n (both (retiredBy p n) _ (both (within 0 (d .params .nodes) c) _ h .1) .0);
+      retired = due-retired d p 0 (d .params .nodes);
       value = refl;
       params = refl;
       nodes = refl;
@@ -55,7 +61,7 @@ quiescent-reclaims d p =
     by-quiescent (Reclaims (d .params) (d .nodes)) d p (λ _ _. reclaims-none _) (λ _ _. reclaims-none _)
     (λ _. record {
       test = expired d p;
-      retired = λ c n h. retired-state p n (both (retiredBy p n) _ h .0);
+      retired = expired-retired d p;
       value = refl;
       params = refl;
       nodes = refl;
