@@ -1,9 +1,25 @@
 -- The starred cases of the paper hold of the rules, by computation. Assumes nothing.
-use mathlib.Core.List.{map}
-use mathlib.Core.Path.{_≡_, refl}
+use mathlib.Core.Path.{refl}
+use Rattle.lists.specs.Tests.{All}
 use Rattle.model.specs.Machine.{step, fresh}
-use Rattle.model.specs.Edge.{observed, expected, cases}
+use Rattle.model.specs.Edge.{Holds, cases}
+use Rattle.model.proofs.Each.{_then_}
 
-pub edge : map observed cases ≡ map expected cases
+-- a line a case, in the list's order
+pub edge : All Holds cases
 unfolding step fresh
-edge = refl
+edge =
+    refl
+    then refl
+    then (refl, refl)
+    then (refl, refl)
+    then (refl, refl)
+    then (refl, refl)
+    then (refl, refl)
+    then (refl, refl)
+    then (refl, refl)
+    then (refl, refl)
+    then (refl, refl)
+    then (refl, refl)
+    then (refl, refl)
+    then tt

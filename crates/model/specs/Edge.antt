@@ -2,14 +2,14 @@
 -- Assumes nothing.
 use Prim.Native.Nat.{ℕ}
 use mathlib.Core.List.{List, [], _∷_, _++_}
+use mathlib.Core.Path.{_≡_}
 use lib.ListN.{replicate}
 use Rattle.model.specs.Params.{Params, wordCount}
 use Rattle.model.specs.State.{Domain, Step, Reachable, Retired, Fast, Fallback, freeNode, emptyHazard}
 use Rattle.model.specs.Hazards.{pending}
 use Rattle.model.specs.Machine.{step, run, fresh}
 use Rattle.model.specs.Cases.{Answer, gives, refuses, oks, answersBy, allocate, publish, protect, use', clear}
-use Rattle.model.specs.Cases.{remove}
-use Rattle.model.specs.Cases.{retire, drain, tick, manage, turnover, params, hazard, process, node, domain}
+use Rattle.model.specs.Cases.{remove, retire, drain, tick, manage, turnover, params, hazard, process, node, domain}
 
 pub data Case : Type 0 where
   -- parameters, and the number of words
@@ -17,18 +17,10 @@ pub data Case : Type 0 where
   -- a start, steps, their answers, and the whole domain afterwards
   Run : Domain → List Step → List Answer → Domain → Case
 
--- what comes of a case
-pub data Result : Type 0 where
-  Words : ℕ → Result
-  Ended : List Answer → Domain → Result
-
-abbrev pub observed : Case → Result
-observed (Length a n) = Words (wordCount a)
-observed (Run d ss xs e) = Ended (answersBy step d ss) (run d ss)
-
-abbrev pub expected : Case → Result
-expected (Length a n) = Words n
-expected (Run d ss xs e) = Ended xs e
+-- what is claimed of a case
+abbrev pub Holds : Case → Type 0
+Holds (Length a n) = wordCount a ≡ n
+Holds (Run d ss xs e) = (answersBy step d ss ≡ xs) × (run d ss ≡ e)
 
 -- a clock that cannot go on, and a pending store that is 3 old
 abbrev pub stopped : Domain

@@ -1,31 +1,31 @@
 -- Ten plausible mistakes, each as a machine that is wrong in one place, with a closed schedule on which it answers otherwise than the
 -- rules. Both lists of answers are written by hand. Assumes nothing.
 use Prim.Native.Nat.{ℕ, suc, _-_}
-use mathlib.Core.Bool.{Bool, true, false, _&&_, _||_, cond}
+use mathlib.Core.Bool.{Bool, true, _&&_, _||_, cond}
 use mathlib.Core.List.{List, [], _∷_, _++_, map}
+use mathlib.Core.Path.{_≡_}
+use mathlib.Core.Logic.{_≢_}
 use lib.Dec.{leb, ltb, eqb}
 use Rattle.lists.specs.Tests.{every, count, implies, lacks}
 use Rattle.model.specs.Params.{Params, delay}
 use Rattle.model.specs.State.{Node, Domain, Step, Reachable, Removed, Fast, Fallback, processOf, withNodes}
-use Rattle.model.specs.State.{withPath}
-use Rattle.model.specs.State.{withStores, setProcess, nextEpoch}
+use Rattle.model.specs.State.{withPath, withStores, setProcess, nextEpoch}
 use Rattle.model.specs.Kinds.{Kind, is, kindOf, Protect, Check, Clear, Retire, Tick, Manage}
 use Rattle.model.specs.Hazards.{here, target}
-use Rattle.model.specs.Retire.{Effect, effect, retiredBy, visibleTo, aged, due, freeing, marked, overfull}
-use Rattle.model.specs.Retire.{fallBack}
+use Rattle.model.specs.Retire.{Effect, effect, retiredBy, visibleTo, aged, due, freeing}
+use Rattle.model.specs.Retire.{marked, overfull, fallBack}
 use Rattle.model.specs.Questions.{ask, firstNo, questions, refusalOf}
 use Rattle.model.specs.Machine.{Outcome, act, answered, step, fresh}
 use Rattle.model.specs.Cases.{Answer, gives, refuses, oks, answersBy, allocate, publish, protect, check, use'}
-use Rattle.model.specs.Cases.{remove}
-use Rattle.model.specs.Cases.{retire, flush, tick, manage, turnover, params}
+use Rattle.model.specs.Cases.{remove, retire, flush, tick, manage, turnover, params}
 
 -- ---- machines that are right but for one place
 
--- as f does it
+-- every step done as f does it
 abbrev pub doing : (Kind → Domain → Step → Effect) → Domain → Step → Outcome
 doing f d s = answered (refusalOf (kindOf (s .kind)) d s) d (f (kindOf (s .kind)) d s)
 
--- question n, which is of kind j, asked as f
+-- question n, which is for kind j, answered as f answers it
 abbrev pub asking : ℕ → Kind → (Domain → Step → Bool) → Domain → Step → Outcome
 asking n j f d s =
     answered
@@ -33,16 +33,16 @@ asking n j f d s =
     (questions (kindOf (s .kind)) d s)))
     d (act (kindOf (s .kind)) d s)
 
--- a retire that switches where full says so, by switch, and whose scan frees what passes
-abbrev pub retiring : (Domain → ℕ → Bool) → (Domain → Domain) → (Domain → ℕ → ℕ → Node → Bool) → Domain → ℕ → Effect
-retiring full switch passes d p =
+-- after a retire: the switch where full says so, as switch does it, and a scan that frees what passes
+abbrev pub reclaimBy : (Domain → ℕ → Bool) → (Domain → Domain) → (Domain → ℕ → ℕ → Node → Bool) → Domain → ℕ → Effect
+reclaimBy full switch passes d p =
     cond (eqb (d .path) Fallback) (freeing d (passes d p))
     (cond (full d p) (freeing (switch d) (passes (switch d) p))
     (effect 0 d))
 
 abbrev pub retireBy : (Domain → ℕ → Bool) → (Domain → Domain) → (Domain → ℕ → ℕ → Node → Bool) → Domain → Step → Outcome
 retireBy full switch passes =
-    doing (λ k d s. cond (is k Retire) (retiring full switch passes (marked d s) (s .process)) (act k d s))
+    doing (λ k d s. cond (is k Retire) (reclaimBy full switch passes (marked d s) (s .process)) (act k d s))
 
 -- ---- the ten
 
@@ -52,22 +52,24 @@ freesAtAgeT =
     retireBy overfull fallBack
     (λ d p c n. retiredBy p n && (leb (delay (d .params)) (d .clock - n .retiredAt) && lacks (visibleTo d p) (suc c)))
 
--- protect and clear add no store to the buffer on the fast path
+-- an effect without the store that it added
 abbrev pub noStore : Domain → Step → Effect → Effect
 noStore d s e =
     effect 0 (setProcess (e .after) (s .process)
     (withStores (processOf (e .after) (s .process)) (here d s .buffer) (processOf (e .after) (s .process) .hazards)))
 
+-- protect and clear add no store to the buffer on the fast path
 abbrev pub noStoreOnFastPath : Domain → Step → Outcome
 noStoreOnFastPath =
     doing (λ k d s. cond ((is k Protect || is k Clear) && eqb (d .path) Fast) (noStore d s (act k d s)) (act k d s))
 
--- where a manage adopts the global epoch, the limbo list of two epochs ago is freed, and not the one of three epochs ago
+-- a manage that adopts the global epoch, with the next limbo list freed
 abbrev pub otherLimbo : Domain → Step → Effect → Effect
 otherLimbo d s e =
     cond (eqb (processOf (e .after) (s .process) .epoch) (here d s .epoch)) e
     (freeing (withNodes (e .after) (d .nodes)) (λ c n. retiredBy (s .process) n && eqb (n .limbo) (nextEpoch (d .epoch))))
 
+-- a limbo list is freed two epochs on, not three
 abbrev pub freesTwoEpochsOn : Domain → Step → Outcome
 freesTwoEpochsOn = doing (λ k d s. cond (is k Manage) (otherLimbo d s (act k d s)) (act k d s))
 
@@ -133,6 +135,7 @@ freed = gives 0 ∷ gives 0 ∷ gives 80 ∷ []
 abbrev pub round : List Step
 round = manage 0 ∷ manage 0 ∷ manage 1 ∷ []
 
+-- a schedule that ends with reused shows harm: the node is freed under process 1, and its use gives 80 for 70
 abbrev pub mistakes : List Mistake
 mistakes =
     -- at clock 1 the store of process 1 is not visible yet, and node 0 is 1 old
@@ -171,25 +174,11 @@ mistakes =
     (oks 9 ++ gives 1 ∷ []) (oks 10)
     ∷ []
 
--- ---- what comes of a mistake
+-- ---- what is claimed of a mistake
 
-abbrev pub same : List Answer → List Answer → Bool
-same [] [] = true
-same [] (y ∷ ys) = false
-same (x ∷ xs) [] = false
-same (x ∷ xs) (y ∷ ys) = eqb (x .refusal) (y .refusal) && eqb (x .value) (y .value) && same xs ys
-
-pub record Comparison : Type 0 where
-  pub right : List Answer
-  pub wrong : List Answer
-  pub alike : Bool
-
-abbrev pub compared : List Answer → List Answer → Comparison
-compared r w = record { right = r; wrong = w; alike = same r w }
-
-abbrev pub observed : Mistake → Comparison
-observed m =
-    compared (answersBy step (fresh (m .params)) (m .steps)) (answersBy (m .machine) (fresh (m .params)) (m .steps))
-
-abbrev pub expected : Mistake → Comparison
-expected m = record { right = m .right; wrong = m .wrong; alike = false }
+-- the rules and the machine answer as foretold, and not alike
+abbrev pub ToldApart : Mistake → Type 0
+ToldApart m =
+    (answersBy step (fresh (m .params)) (m .steps) ≡ m .right)
+    × (answersBy (m .machine) (fresh (m .params)) (m .steps) ≡ m .wrong)
+    × (m .right ≢ m .wrong)
