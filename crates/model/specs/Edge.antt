@@ -8,8 +8,9 @@ use Rattle.model.specs.Params.{Params, wordCount}
 use Rattle.model.specs.State.{Domain, Step, Reachable, Retired, Fast, Fallback, freeNode, emptyHazard}
 use Rattle.model.specs.Hazards.{pending}
 use Rattle.model.specs.Machine.{step, run, fresh}
-use Rattle.model.specs.Cases.{Answer, gives, refuses, oks, answersBy, allocate, publish, protect, use', clear}
-use Rattle.model.specs.Cases.{remove, retire, drain, tick, manage, turnover, params, hazard, process, node, domain}
+use Rattle.model.specs.Cases.{Answer, gives, refuses, oks, answersBy, params, hazard, process, node, domain}
+use Rattle.model.specs.Cases.{allocate, publish, protect, use', clear, remove, retire, drain, tick, manage}
+use Rattle.model.specs.Cases.{turnover}
 
 pub data Case : Type 0 where
   -- parameters, and the number of words
