@@ -73,12 +73,17 @@ manage p = stepOf 12 p 0 0 0
 abbrev pub turnover : ℕ → ℕ → ℕ → List Step
 turnover p c g = allocate p c g ∷ publish p c ∷ remove p c ∷ retire p c ∷ []
 
--- ---- parameters and domains: each field in the order of its record
+-- ---- parameters and domains: each field in the order of its record. The paper's numbers and none of the rules' names, so that a wrong
+-- name there is found out
 
 -- N, K, M, T, Q, C
 abbrev pub params : ℕ → ℕ → ℕ → ℕ → ℕ → ℕ → Params
 params n k m t q c =
     record { processes = n; hazards = k; nodes = m; visibilityBound = t; quiescenceThreshold = q; fallbackThreshold = c }
+
+-- hazard, node + 1, time
+abbrev pub store : ℕ → ℕ → ℕ → Pending
+store h v t = record { hazard = h; node = v; time = t }
 
 -- visible, assigned, validated
 abbrev pub hazard : ℕ → ℕ → ℕ → Hazard
@@ -88,10 +93,17 @@ hazard v a k = record { visible = v; assigned = a; validated = k }
 abbrev pub process : ℕ → ℕ → ℕ → List Pending → List Hazard → Process
 process e k v b hs = record { epoch = e; calls = k; presence = v; buffer = b; hazards = hs }
 
--- state, owner, guest, retiredAt, limbo
-abbrev pub node : ℕ → ℕ → ℕ → ℕ → ℕ → Node
-node k p g t e = record { state = k; owner = p; guest = g; retiredAt = t; limbo = e }
+abbrev pub free : Node
+free = record { state = 0; owner = 0; guest = 0; retiredAt = 0; limbo = 0 }
 
--- parameters, clock, path, epoch, processes, nodes
+-- guest
+abbrev pub reachable : ℕ → Node
+reachable g = record { state = 2; owner = 0; guest = g; retiredAt = 0; limbo = 0 }
+
+-- owner, guest, retiredAt, limbo
+abbrev pub retired : ℕ → ℕ → ℕ → ℕ → Node
+retired p g t e = record { state = 4; owner = p; guest = g; retiredAt = t; limbo = e }
+
+-- parameters, clock, path (0 fast, 1 fallback), epoch, processes, nodes
 abbrev pub domain : Params → ℕ → ℕ → ℕ → List Process → List Node → Domain
 domain a t v e ps ns = record { params = a; clock = t; path = v; epoch = e; processes = ps; nodes = ns }
