@@ -1,3 +1,6 @@
+pub mod Each
+pub mod Edge
+pub mod Mistakes
 pub mod Walk
 pub mod KindNumbers
 pub mod Unread

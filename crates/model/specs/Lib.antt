@@ -9,3 +9,6 @@ pub mod Questions
 pub mod Machine
 pub mod Reference
 pub mod Claims
+pub mod Cases
+pub mod Edge
+pub mod Mistakes

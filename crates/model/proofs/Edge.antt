@@ -1,0 +1,25 @@
+-- The starred cases of the paper hold of the rules, by computation. Assumes nothing.
+use mathlib.Core.Path.{refl}
+use Rattle.lists.specs.Tests.{All}
+use Rattle.model.specs.Machine.{step, fresh}
+use Rattle.model.specs.Edge.{Holds, cases}
+use Rattle.model.proofs.Each.{_then_}
+
+-- a line a case, in the list's order
+pub edge : All Holds cases
+unfolding step fresh
+edge =
+    refl
+    then refl
+    then (refl, refl)
+    then (refl, refl)
+    then (refl, refl)
+    then (refl, refl)
+    then (refl, refl)
+    then (refl, refl)
+    then (refl, refl)
+    then (refl, refl)
+    then (refl, refl)
+    then (refl, refl)
+    then (refl, refl)
+    then tt

@@ -1,0 +1,109 @@
+-- What closed schedules share: the answers of a run, and short makers of answers, steps, parameters and the parts of a domain.
+-- Assumes nothing.
+use Prim.Native.Nat.{ℕ}
+use mathlib.Core.List.{List, [], _∷_}
+use lib.ListN.{replicate}
+use Rattle.model.specs.Params.{Params}
+use Rattle.model.specs.State.{Pending, Hazard, Process, Node, Domain, Step}
+use Rattle.model.specs.Machine.{Outcome}
+
+-- ---- answers
+
+pub record Answer : Type 0 where
+  pub refusal : ℕ
+  pub value : ℕ
+
+abbrev pub gives : ℕ → Answer
+gives v = record { refusal = 0; value = v }
+
+abbrev pub refuses : ℕ → Answer
+refuses n = record { refusal = n; value = 0 }
+
+-- n times accepted, value 0
+abbrev pub oks : ℕ → List Answer
+oks n = replicate n (gives 0)
+
+-- what machine f answers to each step of a list
+abbrev pub answersBy : (Domain → Step → Outcome) → Domain → List Step → List Answer
+answersBy f d [] = []
+answersBy f d (s ∷ ss) = record { refusal = f d s .refusal; value = f d s .value } ∷ answersBy f (f d s .after) ss
+
+-- ---- steps: kind, process, hazard, node, guest; fields that are not read are 0
+
+abbrev pub stepOf : ℕ → ℕ → ℕ → ℕ → ℕ → Step
+stepOf k p h c g = record { kind = k; process = p; hazard = h; node = c; guest = g }
+
+abbrev pub allocate : ℕ → ℕ → ℕ → Step
+allocate p c g = stepOf 1 p 0 c g
+
+abbrev pub publish : ℕ → ℕ → Step
+publish p c = stepOf 2 p 0 c 0
+
+abbrev pub protect : ℕ → ℕ → ℕ → Step
+protect p h c = stepOf 3 p h c 0
+
+abbrev pub check : ℕ → ℕ → Step
+check p h = stepOf 4 p h 0 0
+
+abbrev pub use' : ℕ → ℕ → Step
+use' p h = stepOf 5 p h 0 0
+
+abbrev pub clear : ℕ → ℕ → Step
+clear p h = stepOf 6 p h 0 0
+
+abbrev pub remove : ℕ → ℕ → Step
+remove p c = stepOf 7 p 0 c 0
+
+abbrev pub retire : ℕ → ℕ → Step
+retire p c = stepOf 8 p 0 c 0
+
+abbrev pub drain : ℕ → Step
+drain p = stepOf 9 p 0 0 0
+
+abbrev pub flush : ℕ → Step
+flush p = stepOf 10 p 0 0 0
+
+abbrev pub tick : Step
+tick = stepOf 11 0 0 0 0
+
+abbrev pub manage : ℕ → Step
+manage p = stepOf 12 p 0 0 0
+
+-- node c comes and goes: process p allocates it for guest g, publishes, removes and retires it
+abbrev pub turnover : ℕ → ℕ → ℕ → List Step
+turnover p c g = allocate p c g ∷ publish p c ∷ remove p c ∷ retire p c ∷ []
+
+-- ---- parameters and domains: each field in the order of its record. The paper's numbers and none of the rules' names, so that a wrong
+-- name there is found out
+
+-- N, K, M, T, Q, C
+abbrev pub params : ℕ → ℕ → ℕ → ℕ → ℕ → ℕ → Params
+params n k m t q c =
+    record { processes = n; hazards = k; nodes = m; visibilityBound = t; quiescenceThreshold = q; fallbackThreshold = c }
+
+-- hazard, node + 1, time
+abbrev pub store : ℕ → ℕ → ℕ → Pending
+store h v t = record { hazard = h; node = v; time = t }
+
+-- visible, assigned, validated
+abbrev pub hazard : ℕ → ℕ → ℕ → Hazard
+hazard v a k = record { visible = v; assigned = a; validated = k }
+
+-- epoch, calls, presence, buffer, hazards
+abbrev pub process : ℕ → ℕ → ℕ → List Pending → List Hazard → Process
+process e k v b hs = record { epoch = e; calls = k; presence = v; buffer = b; hazards = hs }
+
+abbrev pub free : Node
+free = record { state = 0; owner = 0; guest = 0; retiredAt = 0; limbo = 0 }
+
+-- guest
+abbrev pub reachable : ℕ → Node
+reachable g = record { state = 2; owner = 0; guest = g; retiredAt = 0; limbo = 0 }
+
+-- owner, guest, retiredAt, limbo
+abbrev pub retired : ℕ → ℕ → ℕ → ℕ → Node
+retired p g t e = record { state = 4; owner = p; guest = g; retiredAt = t; limbo = e }
+
+-- parameters, clock, path (0 fast, 1 fallback), epoch, processes, nodes
+abbrev pub domain : Params → ℕ → ℕ → ℕ → List Process → List Node → Domain
+domain a t v e ps ns = record { params = a; clock = t; path = v; epoch = e; processes = ps; nodes = ns }

@@ -1,0 +1,100 @@
+-- The starred cases of 'On the edge' in the paper, all of them and in its order: each is data, what is expected of it written by hand.
+-- Assumes nothing.
+use Prim.Native.Nat.{ℕ}
+use mathlib.Core.List.{List, [], _∷_, _++_}
+use mathlib.Core.Path.{_≡_}
+use lib.ListN.{replicate}
+use Rattle.model.specs.Params.{Params, wordCount}
+use Rattle.model.specs.State.{Domain, Step}
+use Rattle.model.specs.Machine.{step, run, fresh}
+use Rattle.model.specs.Cases.{Answer, gives, refuses, oks, answersBy, allocate, publish, protect, use'}
+use Rattle.model.specs.Cases.{clear, remove, retire, drain, tick, manage, turnover, params, store, hazard}
+use Rattle.model.specs.Cases.{process, free, reachable, retired, domain}
+
+pub data Case : Type 0 where
+  -- parameters, and the number of words
+  Length : Params → ℕ → Case
+  -- a start, steps, their answers, and the whole domain afterwards
+  Run : Domain → List Step → List Answer → Domain → Case
+
+-- what is claimed of a case
+abbrev pub Holds : Case → Type 0
+Holds (Length a n) = wordCount a ≡ n
+Holds (Run d ss xs e) = (answersBy step d ss ≡ xs) × (run d ss ≡ e)
+
+-- a clock that cannot go on, and a pending store that is 3 old
+abbrev pub stopped : Domain
+stopped =
+    domain (params 1 1 1 3 1 1) 4294967295 0 0
+    (process 0 0 0 (store 0 1 4294967292 ∷ []) (hazard 0 1 0 ∷ []) ∷ [])
+    (free ∷ [])
+
+abbrev pub cases : List Case
+cases =
+    -- length at 1, 1, 1 is 45
+    Length (params 1 1 1 1 1 1) 45
+    -- at 16, 8, 256 it is 2121
+    ∷ Length (params 16 8 256 1 1 1) 2121
+    -- T = 3, stamp 0: a scan at clock 3 keeps the card (the scan is the second retire's, C being 1)
+    ∷ Run (fresh (params 1 1 2 3 1 1)) (turnover 0 0 70 ++ replicate 3 tick ++ turnover 0 1 60)
+    (oks 11)
+    (domain (params 1 1 2 3 1 1) 3 1 0
+    (process 0 0 0 [] (hazard 0 0 0 ∷ []) ∷ [])
+    (retired 0 70 0 0 ∷ retired 0 60 3 0 ∷ []))
+    -- at 4 frees it if off the board
+    ∷ Run (fresh (params 1 1 2 3 1 1)) (turnover 0 0 70 ++ replicate 4 tick ++ turnover 0 1 60)
+    (oks 11 ++ gives 1 ∷ [])
+    (domain (params 1 1 2 3 1 1) 4 1 0
+    (process 0 0 0 [] (hazard 0 0 0 ∷ []) ∷ [])
+    (free ∷ retired 0 60 4 0 ∷ []))
+    -- keeps it if on
+    ∷ Run (fresh (params 1 1 2 3 1 1))
+    (allocate 0 0 70 ∷ publish 0 0 ∷ protect 0 0 0 ∷ drain 0 ∷ remove 0 0 ∷ retire 0 0 ∷ replicate 4 tick ++ turnover 0 1 60)
+    (oks 14)
+    (domain (params 1 1 2 3 1 1) 4 1 0
+    (process 0 0 0 [] (hazard 1 1 0 ∷ []) ∷ [])
+    (retired 0 70 0 0 ∷ retired 0 60 4 0 ∷ []))
+    -- the eighth mail entry is taken, the ninth gets 13 (of either kind)
+    ∷ Run (fresh (params 1 1 1 1 1 1))
+    (protect 0 0 0 ∷ clear 0 0 ∷ protect 0 0 0 ∷ clear 0 0 ∷ protect 0 0 0 ∷ clear 0 0 ∷ protect 0 0 0 ∷ clear 0 0
+    ∷ protect 0 0 0 ∷ clear 0 0 ∷ [])
+    (oks 8 ++ refuses 13 ∷ refuses 13 ∷ [])
+    (domain (params 1 1 1 1 1 1) 0 0 0
+    (process 0 0 0
+    (store 0 1 0 ∷ store 0 0 0 ∷ store 0 1 0 ∷ store 0 0 0 ∷ store 0 1 0 ∷ store 0 0 0 ∷ store 0 1 0
+    ∷ store 0 0 0 ∷ [])
+    (hazard 0 0 0 ∷ []) ∷ [])
+    (free ∷ []))
+    -- C = 2: first retire stays fast (a manage before it, so that presence is there to be forgotten)
+    ∷ Run (fresh (params 1 1 2 3 1 2)) (manage 0 ∷ turnover 0 0 70)
+    (oks 5)
+    (domain (params 1 1 2 3 1 2) 0 0 1
+    (process 0 0 1 [] (hazard 0 0 0 ∷ []) ∷ [])
+    (retired 0 70 0 0 ∷ free ∷ []))
+    -- second switches
+    ∷ Run (fresh (params 1 1 2 3 1 2)) (manage 0 ∷ turnover 0 0 70 ++ turnover 0 1 60)
+    (oks 9)
+    (domain (params 1 1 2 3 1 2) 0 1 1
+    (process 0 0 0 [] (hazard 0 0 0 ∷ []) ∷ [])
+    (retired 0 70 0 0 ∷ retired 0 60 0 0 ∷ []))
+    -- Q = 3: only the third manage acts: two count
+    ∷ Run (fresh (params 1 1 1 1 3 1)) (replicate 2 (manage 0))
+    (oks 2)
+    (domain (params 1 1 1 1 3 1) 0 0 0 (process 0 2 0 [] (hazard 0 0 0 ∷ []) ∷ []) (free ∷ []))
+    -- and the third sets presence and moves the global epoch
+    ∷ Run (fresh (params 1 1 1 1 3 1)) (replicate 3 (manage 0))
+    (oks 3)
+    (domain (params 1 1 1 1 3 1) 0 0 1 (process 0 0 1 [] (hazard 0 0 0 ∷ []) ∷ []) (free ∷ []))
+    -- N = 1, Q = 1, C = 2, a card retired on a fresh epoch: the sixth manage frees it
+    ∷ Run (fresh (params 1 1 1 3 1 2)) (turnover 0 0 70 ++ replicate 6 (manage 0))
+    (oks 9 ++ gives 1 ∷ [])
+    (domain (params 1 1 1 3 1 2) 0 0 0 (process 0 0 1 [] (hazard 0 0 0 ∷ []) ∷ []) (free ∷ []))
+    -- clock 4294967295 with due mail: 15
+    ∷ Run stopped (tick ∷ []) (refuses 15 ∷ []) stopped
+    -- use after protect without check: 12
+    ∷ Run (fresh (params 1 1 1 1 1 1)) (allocate 0 0 70 ∷ publish 0 0 ∷ protect 0 0 0 ∷ use' 0 0 ∷ [])
+    (oks 3 ++ refuses 12 ∷ [])
+    (domain (params 1 1 1 1 1 1) 0 0 0
+    (process 0 0 0 (store 0 1 0 ∷ []) (hazard 0 1 0 ∷ []) ∷ [])
+    (reachable 70 ∷ []))
+    ∷ []
