@@ -1,6 +1,6 @@
 pub mod Each
-pub mod Edge
-pub mod Mistakes
+pub mod AtTheEdge
+pub mod AgainstMistakes
 pub mod Walk
 pub mod KindNumbers
 pub mod Unread
