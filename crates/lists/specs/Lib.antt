@@ -1,2 +1,4 @@
 pub mod Tests
 pub mod Sweep
+pub mod Rows
+pub mod Upto

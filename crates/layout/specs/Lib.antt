@@ -1,0 +1,5 @@
+pub mod Shape
+pub mod Codecs
+pub mod Encode
+pub mod Words
+pub mod Sound
