@@ -3,3 +3,4 @@ pub mod Codecs
 pub mod Encode
 pub mod Words
 pub mod Sound
+pub mod Values

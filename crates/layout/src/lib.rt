@@ -1,1 +1,50 @@
-// The words of a domain.
+// The values that travel by value: ids, parameters, and the records that stand in a domain's words; and a word as an index.
+ghost use mathlib.Core.Path.{_≡_};
+ghost use Prim.Native.Nat.{_<_};
+
+// A process (the paper's worker), a hazard of a process (slot) and a node (card), each counted from 0.
+pub struct ProcessId(pub u32);
+
+pub struct HazardId(pub u32);
+
+pub struct NodeId(pub u32);
+
+// N, K, M, T, Q and C.
+pub struct Params {
+    pub processes: u32,
+    pub hazards: u32,
+    pub nodes: u32,
+    pub visibility: u32,
+    pub quiescence: u32,
+    pub fallback: u32,
+}
+
+// The words of a process before its hazards; stores: how many are pending.
+pub struct Lead {
+    pub epoch: u32,
+    pub calls: u32,
+    pub presence: u32,
+    pub stores: u32,
+}
+
+pub struct Hazard {
+    pub visible: u32,
+    pub assigned: u32,
+    pub validated: u32,
+}
+
+// retired: the clock when it was retired.
+pub struct Node {
+    pub state: u32,
+    pub owner: u32,
+    pub guest: u32,
+    pub retired: u32,
+    pub limbo: u32,
+}
+
+// A word as an index, with the bound that keeps sums of such from wrapping.
+pub fn wide(x: u32) -> usize
+    ensures { λ r. ⌜ (r ≡ x) × (r < 4294967296) ⌝ }
+{
+    x as usize
+}
