@@ -4,3 +4,4 @@ pub mod Facts
 pub mod Counts
 pub mod Sweeps
 pub mod Pigeonhole
+pub mod Table
