@@ -5,3 +5,5 @@ pub mod Counts
 pub mod Sweeps
 pub mod Pigeonhole
 pub mod Table
+pub mod Upto
+pub mod Rows

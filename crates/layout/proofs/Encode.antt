@@ -1,0 +1,206 @@
+-- A domain's words in any layout: how many they are, what they decode to, and the head, a process and the nodes in them, read and
+-- written. Assumes nothing.
+use Prim.Native.Nat.{ℕ, _+_, _*_, _-_, _<_, _≤_}
+use mathlib.Core.List.{List, [], _++_, append-assoc, append-nil}
+use mathlib.Core.Path.{_≡_, refl, sym, _∙_, ap}
+use native.Mathlib.Omega.{arith}
+use native.Mathlib.Nat.{mul-comm}
+use lib.ListN.{length, take, drop, replicate, length-append, length-drop, length-replicate, drop-of-length-le}
+use lib.Seq.{drop-drop, take-at, drop-at, take-append-add, drop-append-add, take-append-seam, drop-append-seam}
+use borrow.Rule.Slice.PartMut.{putMid}
+use Rattle.lists.specs.Rows.{rows, unrows}
+use Rattle.lists.proofs.Facts.{all-at}
+use Rattle.lists.proofs.Rows.{Wide, length-rows, rows-row, rows-splice, unrows-rows, mid-part, mid-splice, below}
+use Rattle.lists.proofs.Rows.{codec-get, codec-length, codec-unrows}
+use Rattle.model.specs.Params.{bufferSize}
+use Rattle.model.specs.State.{Process, Node, Domain, noProcess, processOf, withNodes, setProcess}
+use Rattle.model.specs.WellFormed.{ProcessFits, WellFormed}
+use Rattle.layout.specs.Shape.{Shape, Head, headOf, leadOf, processWidth, processStart, nodesStart}
+use Rattle.layout.specs.Codecs.{hazardCodec, pendingCodec}
+use Rattle.layout.specs.Encode.{bufferWords, processWordsBy, encodeBy, processBy, decodeBy}
+
+-- a domain whose lists are as long as its parameters say
+pub record Laid (d : Domain) : Type 0 where
+  pub processes : length (d .processes) ≡ d .params .processes
+  pub hazards : (p : ℕ) → p < d .params .processes → length (processOf d p .hazards) ≡ d .params .hazards
+  pub buffers : (p : ℕ) → p < d .params .processes → length (processOf d p .buffer) ≤ bufferSize
+  pub nodes : length (d .nodes) ≡ d .params .nodes
+
+pub laid : {d : Domain} → WellFormed d → Laid d
+laid {d} f =
+    let fits : (p : ℕ) → p < d .params .processes → ProcessFits (d .params) (d .clock) (processOf d p) =
+    λ p l. all-at (ProcessFits (d .params) (d .clock)) (d .processes) p noProcess (f .processes) (omega (arith, f .processCount)) in
+    record {
+      processes = f .processCount;
+      hazards = λ p l. fits p l .stores .width;
+      buffers = λ p l. fits p l .stores .room;
+      nodes = f .nodeCount;
+    }
+
+-- a domain with another head
+abbrev pub withHead : Domain → Head → Domain
+withHead d h =
+    record { params = h .params; clock = h .clock; path = h .path; epoch = h .epoch; processes = d .processes; nodes = d .nodes }
+
+-- the three parts of a domain's words, and the width of its processes
+abbrev headRow : Shape → Domain → List ℕ
+headRow sh d = sh .head .put (headOf d)
+
+abbrev processRows : Shape → Domain → List ℕ
+processRows sh d = rows (processWordsBy sh) (d .processes)
+
+abbrev nodeRows : Shape → Domain → List ℕ
+nodeRows sh d = rows (sh .node .put) (d .nodes)
+
+abbrev rowWidth : Shape → Domain → ℕ
+rowWidth sh d = processWidth sh (d .params .hazards)
+
+module _ (sh : Shape) where
+  -- ---- a process by itself
+
+  module _ (x : Process) (k : ℕ) (hk : length (x .hazards) ≡ k) (hb : length (x .buffer) ≤ bufferSize) where
+    pub process-width : length (processWordsBy sh x) ≡ processWidth sh k
+    unfolding processWordsBy
+    process-width =
+        simp (length-append, length-replicate)
+        (omega (arith, codec-length hazardCodec (x .hazards), codec-length pendingCodec (x .buffer), sh .lead .width (leadOf x)))
+
+    hazards-start : drop (sh .leadWidth) (processWordsBy sh x) ≡ rows (hazardCodec .put) (x .hazards) ++ bufferWords (x .buffer)
+    unfolding processWordsBy
+    hazards-start = drop-at (sh .lead .put (leadOf x)) _ (sh .leadWidth) (sh .lead .width (leadOf x))
+
+    buffer-start : drop (sh .leadWidth + k * 3) (processWordsBy sh x) ≡ bufferWords (x .buffer)
+    buffer-start =
+        let hs : List ℕ = rows (hazardCodec .put) (x .hazards) in
+        sym (drop-drop (k * 3) (sh .leadWidth) (processWordsBy sh x))
+        ∙ (ap (λ (r : List ℕ). drop (k * 3) r) hazards-start
+        ∙ drop-at hs (bufferWords (x .buffer)) (k * 3) (rw (← hk) (codec-length hazardCodec (x .hazards))))
+
+    pub process-back : processBy sh k (processWordsBy sh x) ≡ x
+    unfolding processBy processWordsBy
+    process-back =
+        let hs : unrows (hazardCodec .get) 3 k (drop (sh .leadWidth) (processWordsBy sh x)) ≡ x .hazards =
+        rw (hazards-start, ← hk) (codec-unrows hazardCodec (x .hazards) (bufferWords (x .buffer))) in
+        let b : unrows (pendingCodec .get) 3 (length (x .buffer)) (drop (sh .leadWidth + k * 3) (processWordsBy sh x)) ≡ x .buffer =
+        rw buffer-start (codec-unrows pendingCodec (x .buffer) (replicate (24 - length (x .buffer) * 3) 0)) in
+        rw (codec-get (sh .lead) (leadOf x))
+        (λ t. record { epoch = x .epoch; calls = x .calls; presence = x .presence; buffer = b t; hazards = hs t })
+
+  -- ---- the head
+
+  module _ (d : Domain) where
+    pub head-part : take (sh .headWidth) (encodeBy sh d) ≡ sh .head .put (headOf d)
+    unfolding encodeBy
+    head-part = take-at (headRow sh d) _ (sh .headWidth) (sh .head .width (headOf d))
+
+    after-head : drop (sh .headWidth) (encodeBy sh d) ≡ processRows sh d ++ nodeRows sh d
+    unfolding encodeBy
+    after-head = drop-at (headRow sh d) _ (sh .headWidth) (sh .head .width (headOf d))
+
+    pub head-put : (h : Head) → sh .head .put h ++ drop (sh .headWidth) (encodeBy sh d) ≡ encodeBy sh (withHead d h)
+    unfolding encodeBy
+    head-put h = ap (λ (r : List ℕ). sh .head .put h ++ r) after-head
+
+  -- ---- the whole
+
+  module _ {d : Domain} (l : Laid d) where
+    wide : Wide (processWordsBy sh) (rowWidth sh d) noProcess (d .processes)
+    wide p h =
+        let q : p < d .params .processes = omega (arith, l .processes) in
+        process-width (processOf d p) (d .params .hazards) (l .hazards p q) (l .buffers p q)
+
+    processes-length : length (processRows sh d) ≡ d .params .processes * rowWidth sh d
+    processes-length =
+        length-rows (processWordsBy sh) (rowWidth sh d) noProcess (d .processes) wide ∙ ap (λ (n : ℕ). n * rowWidth sh d) (l .processes)
+
+    nodes-length : length (nodeRows sh d) ≡ sh .nodeWidth * d .params .nodes
+    nodes-length =
+        codec-length (sh .node) (d .nodes)
+        ∙ (ap (λ (n : ℕ). n * sh .nodeWidth) (l .nodes) ∙ mul-comm (d .params .nodes) (sh .nodeWidth))
+
+    pub encode-length : length (encodeBy sh d)
+        ≡ nodesStart sh (d .params .processes) (d .params .hazards) + sh .nodeWidth * d .params .nodes
+    unfolding encodeBy
+    encode-length = simp length-append (omega (arith, processes-length, nodes-length, sh .head .width (headOf d)))
+
+    -- ---- its nodes, from a on
+
+    module _ (a : ℕ) (e : a ≡ nodesStart sh (d .params .processes) (d .params .hazards)) where
+      nodes-start : a ≡ length (headRow sh d) + length (processRows sh d)
+      nodes-start = omega (arith, processes-length, sh .head .width (headOf d))
+
+      pub nodes-part : drop a (encodeBy sh d) ≡ rows (sh .node .put) (d .nodes)
+      unfolding encodeBy
+      nodes-part = rw (nodes-start, drop-append-add) (drop-append-seam (processRows sh d) (nodeRows sh d))
+
+      pub nodes-put : (ns : List Node) → take a (encodeBy sh d) ++ rows (sh .node .put) ns ≡ encodeBy sh (withNodes d ns)
+      unfolding encodeBy
+      nodes-put ns =
+          rw (nodes-start, take-append-add, take-append-seam (processRows sh d) (nodeRows sh d))
+          (append-assoc (headRow sh d) (processRows sh d) (rows (sh .node .put) ns))
+
+      -- as a caller has it that lends the words from a on
+      pub nodes-lent : (w : ℕ) (ns : List Node) → w ≡ length (encodeBy sh d) - a
+          → putMid a w (encodeBy sh d) (rows (sh .node .put) ns) ≡ encodeBy sh (withNodes d ns)
+      nodes-lent w ns q =
+          let z : drop w (drop a (encodeBy sh d)) ≡ [] =
+          drop-of-length-le (drop a (encodeBy sh d)) {i = w} (simp length-drop (omega arith)) in
+          rw (z, append-nil) (nodes-put ns)
+
+    -- ---- process p of it, w words from a on
+
+    module _ (p a w : ℕ) (h : p < d .params .processes)
+        (ea : a ≡ processStart sh (d .params .hazards) p) (ew : w ≡ processWidth sh (d .params .hazards)) where
+      process-start : a ≡ length (headRow sh d) + p * rowWidth sh d
+      process-start = omega (arith, sh .head .width (headOf d))
+
+      inside : p < length (d .processes)
+      inside = omega (arith, l .processes)
+
+      room : p * rowWidth sh d + rowWidth sh d ≤ length (processRows sh d)
+      room = omega (arith, processes-length, below p (d .params .processes) (rowWidth sh d) h)
+
+      pub process-part : take w (drop a (encodeBy sh d)) ≡ processWordsBy sh (processOf d p)
+      unfolding encodeBy
+      process-part =
+          rw ew
+          (mid-part (headRow sh d) (processRows sh d) (nodeRows sh d) _ _ a process-start room
+          ∙ rows-row (processWordsBy sh) (rowWidth sh d) noProcess (d .processes) p wide inside)
+
+      pub process-put : (x : Process) → putMid a w (encodeBy sh d) (processWordsBy sh x) ≡ encodeBy sh (setProcess d p x)
+      unfolding encodeBy
+      process-put x =
+          rw (ew, drop-drop (rowWidth sh d) a)
+          (mid-splice (headRow sh d) (processRows sh d) (nodeRows sh d) _ _ a process-start room (processWordsBy sh x)
+          ∙ ap (λ (r : List ℕ). headRow sh d ++ (r ++ nodeRows sh d))
+          (rows-splice (processWordsBy sh) (rowWidth sh d) noProcess (d .processes) p x wide inside))
+
+    -- ---- and back
+
+    processes-back : unrows (processBy sh (d .params .hazards)) (rowWidth sh d) (d .params .processes) (drop (sh .headWidth) (encodeBy sh d))
+        ≡ d .processes
+    processes-back =
+        let back : (p : ℕ) → p < length (d .processes) → processBy sh (d .params .hazards) (processWordsBy sh (processOf d p)) ≡ processOf d p =
+        λ p h. let q : p < d .params .processes = omega (arith, l .processes) in
+        process-back (processOf d p) (d .params .hazards) (l .hazards p q) (l .buffers p q) in
+        rw (after-head d, ← l .processes)
+        (unrows-rows (processBy sh (d .params .hazards)) (rowWidth sh d) noProcess (processWordsBy sh) (d .processes) (nodeRows sh d) wide back)
+
+    nodes-back : unrows (sh .node .get) (sh .nodeWidth) (d .params .nodes)
+        (drop (nodesStart sh (d .params .processes) (d .params .hazards)) (encodeBy sh d)) ≡ d .nodes
+    nodes-back =
+        rw (nodes-part (nodesStart sh (d .params .processes) (d .params .hazards)) refl, ← append-nil (nodeRows sh d), ← l .nodes)
+        (codec-unrows (sh .node) (d .nodes) [])
+
+    pub decode-encode : decodeBy sh (encodeBy sh d) ≡ d
+    unfolding decodeBy encodeBy
+    decode-encode =
+        rw (codec-get (sh .head) (headOf d))
+        (λ t. record {
+          params = d .params;
+          clock = d .clock;
+          path = d .path;
+          epoch = d .epoch;
+          processes = processes-back t;
+          nodes = nodes-back t;
+        })
