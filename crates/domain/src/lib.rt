@@ -1,0 +1,99 @@
+// A domain's words by its parts: every call speaks of the domain that the words hold, and no caller knows an address.
+use layout::Hazard;
+use layout::HazardId;
+use layout::Lead;
+use layout::Node;
+use layout::NodeId;
+use layout::Params;
+use layout::ProcessId;
+ghost use mathlib.Core.Path.{_≡_};
+ghost use mathlib.Core.Logic.{_≢_};
+ghost use Prim.Native.Nat.{_+_, _*_, _≤_, _<_};
+ghost use lib.ListN.{length};
+ghost use Rattle.lists.specs.Tests.{count};
+ghost use Rattle.model.specs.State.{nodeOf, processOf, hazardOf, setNode, setProcess, withWords, withClock, withPath, withEpoch};
+ghost use Rattle.model.specs.Hazards.{assigning, validating, drained, flushed, unassigned};
+ghost use Rattle.model.specs.Retire.{retiredBy};
+ghost use Rattle.model.specs.Claims.{reachableCount};
+ghost use Rattle.layout.specs.Shape.{word, leadOf};
+ghost use Rattle.layout.specs.Encode.{encode, decode};
+ghost use Rattle.layout.specs.Sound.{Sound};
+ghost use Rattle.layout.specs.Values.{paramsValue, leadValue, hazardValue, nodeValue};
+
+// ---- where things stand
+
+// Where the nodes start.
+fn nodes_at(words: &[u32]) -> usize
+    requires { ⌜ Sound (now words) ⌝ }
+    ensures { λ r. ⌜ (r ≡ 9 + word (now (words .entry)) 0 * (28 + 3 * word (now (words .entry)) 1)) × (r + 5 * word (now (words .entry)) 2 ≡ length (now (words .entry))) ⌝ }
+{
+    9 + layout::wide(words[0]) * (28 + 3 * layout::wide(words[1]))
+}
+
+// Where the stretch of a process starts.
+fn process_at(words: &[u32], p: ProcessId) -> usize
+    requires { ⌜ Sound (now words) × (p .0 < word (now words) 0) ⌝ }
+    ensures { λ r. ⌜ (r ≡ 9 + p .0 * (28 + 3 * word (now (words .entry)) 1)) × (r + (28 + 3 * word (now (words .entry)) 1) ≤ length (now (words .entry))) ⌝ }
+{
+    9 + layout::wide(p.0) * (28 + 3 * layout::wide(words[1]))
+}
+
+// ---- the head
+
+// The six parameters.
+pub fn bounds(words: &[u32]) -> Params
+    requires { ⌜ Sound (now words) ⌝ }
+    ensures { λ r. ⌜ paramsValue r ≡ decode (now (words .entry)) .params ⌝ }
+{
+    Params {
+        processes: words[0],
+        hazards: words[1],
+        nodes: words[2],
+        visibility: words[3],
+        quiescence: words[4],
+        fallback: words[5],
+    }
+}
+
+pub fn clock(words: &[u32]) -> u32
+    requires { ⌜ Sound (now words) ⌝ }
+    ensures { λ r. ⌜ r ≡ decode (now (words .entry)) .clock ⌝ }
+{
+    words[6]
+}
+
+pub fn path(words: &[u32]) -> u32
+    requires { ⌜ Sound (now words) ⌝ }
+    ensures { λ r. ⌜ r ≡ decode (now (words .entry)) .path ⌝ }
+{
+    words[7]
+}
+
+// The global epoch.
+pub fn epoch(words: &[u32]) -> u32
+    requires { ⌜ Sound (now words) ⌝ }
+    ensures { λ r. ⌜ r ≡ decode (now (words .entry)) .epoch ⌝ }
+{
+    words[8]
+}
+
+pub fn set_clock(words: &mut [u32], v: u32)
+    requires { ⌜ Sound (now words) ⌝ }
+    ensures { λ _. ⌜ now (words .exit) ≡ encode (withClock (decode (now (words .entry))) v) ⌝ }
+{
+    words[6] = v;
+}
+
+pub fn set_path(words: &mut [u32], v: u32)
+    requires { ⌜ Sound (now words) ⌝ }
+    ensures { λ _. ⌜ now (words .exit) ≡ encode (withPath (decode (now (words .entry))) v) ⌝ }
+{
+    words[7] = v;
+}
+
+pub fn set_epoch(words: &mut [u32], v: u32)
+    requires { ⌜ Sound (now words) ⌝ }
+    ensures { λ _. ⌜ now (words .exit) ≡ encode (withEpoch (decode (now (words .entry))) v) ⌝ }
+{
+    words[8] = v;
+}
