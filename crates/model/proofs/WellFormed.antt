@@ -38,7 +38,7 @@ free-fits r = omega arith
 -- ---- A process: other words, other stores
 
 module _ {a : Params} {clock : ℕ} {x : Process} (f : ProcessFits a clock x) where
-  fits-words : (e k v : ℕ) → e ≤ 2 → k < a .quiescenceThreshold → v ≤ 1 → ProcessFits a clock (withWords x e k v)
+  pub fits-words : (e k v : ℕ) → e ≤ 2 → k < a .quiescenceThreshold → v ≤ 1 → ProcessFits a clock (withWords x e k v)
   fits-words e k v he hk hv =
       let o = f .stores in
       record {
@@ -125,10 +125,10 @@ module _ {a : Params} {clock : ℕ} where
 -- ---- Stores into a domain
 
 module _ {d : Domain} (w : WellFormed d) where
-  node-fits : (c : ℕ) → c < d .params .nodes → NodeIn d (nodeOf d c)
+  pub node-fits : (c : ℕ) → c < d .params .nodes → NodeIn d (nodeOf d c)
   node-fits c l = all-at (NodeIn d) (d .nodes) c freeNode (w .nodes) (rw (w .nodeCount) l)
 
-  process-fits : (p : ℕ) → p < d .params .processes → ProcessIn d (processOf d p)
+  pub process-fits : (p : ℕ) → p < d .params .processes → ProcessIn d (processOf d p)
   process-fits p l = all-at (ProcessIn d) (d .processes) p noProcess (w .processes) (rw (w .processCount) l)
 
   -- another path and epoch, and other processes and nodes, as many as before
@@ -147,32 +147,32 @@ module _ {d : Domain} (w : WellFormed d) where
         nodes = nodes;
       }
 
-  keep-path : (v : ℕ) → v ≤ 1 → WellFormed (withPath d v)
+  pub keep-path : (v : ℕ) → v ≤ 1 → WellFormed (withPath d v)
   keep-path v h = keep h (w .epoch) refl (w .processes) refl (w .nodes)
 
-  keep-epoch : WellFormed (withEpoch d (nextEpoch (d .epoch)))
+  pub keep-epoch : WellFormed (withEpoch d (nextEpoch (d .epoch)))
   keep-epoch = keep (w .path) (omega arith) refl (w .processes) refl (w .nodes)
 
-  keep-node : (c : ℕ) (n : Node) → NodeIn d n → WellFormed (setNode d c n)
+  pub keep-node : (c : ℕ) (n : Node) → NodeIn d n → WellFormed (setNode d c n)
   keep-node c n f =
       keep (w .path) (w .epoch) refl (w .processes) (length-set (d .nodes) c n) (all-set (NodeIn d) (d .nodes) c n (w .nodes) f)
 
-  keep-freeing : (f : ℕ → Node → Bool) → WellFormed (freeing d f .after)
+  pub keep-freeing : (f : ℕ → Node → Bool) → WellFormed (freeing d f .after)
   keep-freeing f =
       keep (w .path) (w .epoch) refl (w .processes) (sweep-length freeNode f 0 (d .nodes))
       (all-sweep (NodeIn d) freeNode f 0 (d .nodes) (free-fits (w .params)) (w .nodes))
 
-  keep-process : (p : ℕ) (x : Process) → ProcessIn d x → WellFormed (setProcess d p x)
+  pub keep-process : (p : ℕ) (x : Process) → ProcessIn d x → WellFormed (setProcess d p x)
   keep-process p x f =
       keep (w .path) (w .epoch) (length-set (d .processes) p x) (all-set (ProcessIn d) (d .processes) p x (w .processes) f)
       refl (w .nodes)
 
-  keep-absent : WellFormed (clearPresence d)
+  pub keep-absent : WellFormed (clearPresence d)
   keep-absent =
       keep (w .path) (w .epoch) (length-map (d .processes) absent)
       (all-through (ProcessIn d) absent (d .processes) (λ x f. fits-absent f) (w .processes)) refl (w .nodes)
 
-  keep-clock : d .clock < lastClock → WellFormed (withClock d (d .clock + 1))
+  pub keep-clock : d .clock < lastClock → WellFormed (withClock d (d .clock + 1))
   keep-clock l =
       record {
         params = w .params;
@@ -193,7 +193,21 @@ keep-quiescent {d} w p l =
     by-quiescent (λ e. WellFormed (e .after)) d p (λ _ _. keep-epoch w) (λ _ _. w)
     (λ _. keep-process (keep-freeing w (expired d p)) p _ (fits-words (process-fits w p l) _ _ _ (w .epoch) (o .calls) (o .presence)))
 
-keep-act : (k : Kind) (d : Domain) (s : Step) → WellFormed d → Asked k d s → WellFormed (act k d s .after)
+-- a node marked Retired, and a manage counted
+pub keep-marked : {d : Domain} → WellFormed d → (s : Step) → s .process < d .params .processes → s .node < d .params .nodes
+    → WellFormed (marked d s)
+keep-marked {d} w s l h =
+    let n = node-fits w (s .node) h in
+    let o = process-fits w (s .process) l .words in
+    keep-node w (s .node) (retiring (d .clock) (here d s .epoch) (nodeOf d (s .node))) (omega arith)
+
+pub keep-counted : {d : Domain} → WellFormed d → (s : Step) → s .process < d .params .processes → (k v : ℕ)
+    → k < d .params .quiescenceThreshold → v ≤ 1 → WellFormed (counted d s k v)
+keep-counted w s l k v hk hv =
+    let f = process-fits w (s .process) l in
+    keep-process w (s .process) _ (fits-words f _ k v (f .words .epoch) hk hv)
+
+pub keep-act : (k : Kind) (d : Domain) (s : Step) → WellFormed d → Asked k d s → WellFormed (act k d s .after)
 keep-act Allocate d s w a = keep-node w (s .node) (allocating s) (omega (arith, a .process refl))
 keep-act Publish d s w a =
     let n = node-fits w (s .node) (a .node refl) in
@@ -214,9 +228,7 @@ keep-act Remove d s w a =
     keep-node w (s .node) (removing (s .process) (nodeOf d (s .node)))
     (omega (arith, a .process refl, n .unretired (omega (arith, a .state _ refl))))
 keep-act Retire d s w a =
-    let n = node-fits w (s .node) (a .node refl) in
-    let o = process-fits w (s .process) (a .process refl) .words in
-    let m : WellFormed (marked d s) = keep-node w (s .node) (retiring (d .clock) (here d s .epoch) (nodeOf d (s .node))) (omega arith) in
+    let m = keep-marked w s (a .process refl) (a .node refl) in
     by-reclaim (λ e. WellFormed (e .after)) (marked d s) (s .process) (λ _. keep-freeing m _)
     (λ _ _. keep-freeing (keep-absent (keep-path m Fallback (omega arith))) _) (λ _ _. m)
 keep-act Drain d s w a =
@@ -229,14 +241,11 @@ keep-act Tick d s w a = keep-clock w (a .clock refl)
 keep-act Manage d s w a =
     let p = s .process in
     let l = a .process refl in
-    let f = process-fits w p l in
-    let o = f .words in
     let some' = w .params .quiescenceThreshold .0 in
-    let called : WellFormed (counted d s 0 1) = keep-process w p _ (fits-words f _ 0 1 (o .epoch) some' (omega arith)) in
+    let called = keep-counted w s l 0 1 some' (omega arith) in
     by-manage (λ e. WellFormed (e .after)) d s
     (λ _ _ _. keep-quiescent (keep-path called Fast (omega arith)) p l) (λ _ _ _. called) (λ _ _. keep-quiescent called p l)
-    (λ _. keep-process w p _
-    (fits-words f _ (calledBy d s) _ (o .epoch) (mod-lt (here d s .calls + 1) some') (o .presence)))
+    (λ _. keep-counted w s l (calledBy d s) (here d s .presence) (mod-lt (here d s .calls + 1) some') (process-fits w p l .words .presence))
 keep-act ClearPresence d s w a = keep-absent w
 keep-act Unknown d s w a = w
 
