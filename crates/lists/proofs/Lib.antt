@@ -4,3 +4,5 @@ pub mod Facts
 pub mod Counts
 pub mod Sweeps
 pub mod Pigeonhole
+pub mod Rows
+pub mod Turns
