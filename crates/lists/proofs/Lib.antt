@@ -7,3 +7,4 @@ pub mod Pigeonhole
 pub mod Table
 pub mod Upto
 pub mod Rows
+pub mod Turns

@@ -1,0 +1,80 @@
+-- A loop that frees the nodes that pass a test, and counts them: what holds at its head, where it starts, after a turn and where it ends;
+-- and the test of a node that is due. Assumes nothing.
+use Prim.Native.Nat.{ℕ, _+_, _≤_, _<_}
+use mathlib.Core.Bool.{Bool, false, not, _&&_, cond}
+use mathlib.Core.List.{List, append-nil}
+use mathlib.Core.Path.{_≡_, refl, ap, sym, _∙_}
+use native.Mathlib.Omega.{arith}
+use native.Mathlib.Nat.{zero-add}
+use native.Mathlib.Numerals.{add-one}
+use lib.ListN.{length, getD, set, take, length-set, drop-of-length-le}
+use lib.Seq.{take-all}
+use lib.Dec.{ltb}
+use Rattle.lists.specs.Tests.{countFrom}
+use Rattle.lists.specs.Rows.{rows}
+use Rattle.lists.proofs.Turns.{one-most, count-from-turn, sweptTo, swept-length, swept-at, swept-turn, ltb-sub}
+use Rattle.model.specs.State.{Node, freeNode}
+use Rattle.model.specs.Retire.{retiredBy}
+use Rattle.layout.specs.Shape.{nodeWords}
+use Rattle.nodes.specs.Nodes.{nodesIn, nodeIn, Part, dueUnmarked, Freed, Swept}
+use Rattle.nodes.proofs.Part.{nodes-length, nodes-back, part-rows, part-words}
+
+-- the words r₀ are r now: the first i nodes are swept
+pub record Sweeping (f : ℕ → Node → Bool) (m : ℕ) (r₀ r : List ℕ) (freed i : ℕ) : Type 0 where
+  pub part₀ : Part m r₀
+  pub part : Part m r
+  pub low : i ≤ m
+  pub few : freed ≤ i
+  pub words : r ≡ rows nodeWords (sweptTo f freeNode 0 i (nodesIn m r₀))
+  pub passed : freed ≡ countFrom f 0 (take i (nodesIn m r₀))
+
+pub starts : {f : ℕ → Node → Bool} {m : ℕ} {r : List ℕ} → Part m r → Sweeping f m r r 0 0
+starts h =
+    record { part₀ = h; part = h; low = omega arith; few = omega arith; words = part-words h; passed = refl }
+
+module _ {f : ℕ → Node → Bool} {m : ℕ} {r₀ r : List ℕ} {freed i : ℕ} (h : Sweeping f m r₀ r freed i) where
+  many : length (nodesIn m r₀) ≡ m
+  many = nodes-length m r₀
+
+  -- the nodes now, and the one that is looked at
+  now-nodes : nodesIn m r ≡ sweptTo f freeNode 0 i (nodesIn m r₀)
+  now-nodes = rw (h .words) (nodes-back (sweptTo f freeNode 0 i (nodesIn m r₀)) (swept-length f freeNode 0 i (nodesIn m r₀) ∙ many))
+
+  node-now : nodeIn m r i ≡ nodeIn m r₀ i
+  node-now = ap (λ (ns : List Node). getD ns i freeNode) now-nodes ∙ swept-at f freeNode 0 i (nodesIn m r₀) freeNode
+
+  module _ {b : Bool} {r′ : List ℕ} {v : ℕ} (l : i < m) (e : b ≡ f i (nodeIn m r i)) (u : Freed m r i b r′ v) where
+    inside : i < length (nodesIn m r₀)
+    inside = rw many l
+
+    test : b ≡ f i (nodeIn m r₀ i)
+    test = e ∙ ap (f i) node-now
+
+    swept-more : set (nodesIn m r) i (cond b freeNode (nodeIn m r i)) ≡ sweptTo f freeNode 0 (i + 1) (nodesIn m r₀)
+    swept-more =
+        (λ t. set (now-nodes t) i (cond (test t) freeNode (node-now t)))
+        ∙ rw add-one (rw zero-add at (swept-turn f freeNode 0 (nodesIn m r₀) i freeNode inside))
+
+    passed-more : freed + v ≡ countFrom f 0 (take (i + 1) (nodesIn m r₀))
+    passed-more = rw (h .passed, u .1, test, add-one) (rw zero-add at (count-from-turn f 0 (nodesIn m r₀) i freeNode inside))
+
+    pub turn : Sweeping f m r₀ r′ (freed + v) (i + 1)
+    turn =
+        record {
+          part₀ = h .part₀;
+          part = rw (u .0) (part-rows (set (nodesIn m r) i (cond b freeNode (nodeIn m r i))) (length-set (nodesIn m r) i _ ∙ nodes-length m r) (h .part .few));
+          low = omega arith;
+          few = omega (arith, one-most b, h .few, u .1);
+          words = u .0 ∙ ap (rows nodeWords) swept-more;
+          passed = passed-more;
+        }
+
+  pub ends : m ≤ i → Swept f m r₀ r freed
+  ends l =
+      let q : length (nodesIn m r₀) ≤ i = rw many l in
+      (h .words ∙ rw (take-all i (nodesIn m r₀) q, drop-of-length-le (nodesIn m r₀) q, append-nil), h .passed ∙ ap (countFrom f 0) (take-all i (nodesIn m r₀) q))
+
+pub due-test : (n : Node) (marks : List Bool) (p : ℕ) {clock delay c d s k j : ℕ} {b : Bool}
+    → b ≡ retiredBy p n → d ≡ delay → s ≡ n .retiredAt → k ≡ clock → j ≡ c
+    → (b && (ltb (d + s) k && not (getD marks (j + 1) false))) ≡ dueUnmarked p clock delay marks c n
+due-test n marks p eb ed es ek ej = rw (eb, ed, es, ek, ej, add-one, ltb-sub)
