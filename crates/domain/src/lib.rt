@@ -7,18 +7,18 @@ use layout::NodeId;
 use layout::Params;
 use layout::ProcessId;
 ghost use mathlib.Core.Path.{_≡_};
-ghost use mathlib.Core.Logic.{_≢_};
 ghost use Prim.Native.Nat.{_+_, _*_, _≤_, _<_};
 ghost use lib.ListN.{length};
 ghost use Rattle.lists.specs.Tests.{count};
-ghost use Rattle.model.specs.State.{nodeOf, processOf, hazardOf, setNode, setProcess, withWords, withClock, withPath, withEpoch};
-ghost use Rattle.model.specs.Hazards.{assigning, validating, drained, flushed, unassigned};
-ghost use Rattle.model.specs.Retire.{retiredBy};
+ghost use Rattle.model.specs.State.{nodeOf, setNode, withClock, withPath, withEpoch};
+ghost use Rattle.model.specs.Retire.{retiredBy, freeing};
+ghost use Rattle.model.specs.Epochs.{expired};
 ghost use Rattle.model.specs.Claims.{reachableCount};
-ghost use Rattle.layout.specs.Shape.{word, leadOf};
+ghost use Rattle.layout.specs.Shape.{word};
 ghost use Rattle.layout.specs.Encode.{encode, decode};
 ghost use Rattle.layout.specs.Sound.{Sound};
-ghost use Rattle.layout.specs.Values.{paramsValue, leadValue, hazardValue, nodeValue};
+ghost use Rattle.layout.specs.Values.{paramsValue, nodeValue};
+ghost use Rattle.domain.specs.Effects.{Does, unmarked};
 
 // ---- where things stand
 
@@ -96,4 +96,71 @@ pub fn set_epoch(words: &mut [u32], v: u32)
     ensures { λ _. ⌜ now (words .exit) ≡ encode (withEpoch (decode (now (words .entry))) v) ⌝ }
 {
     words[8] = v;
+}
+
+// ---- nodes
+
+// Node c.
+pub fn node(words: &[u32], c: NodeId) -> Node
+    requires { ⌜ Sound (now words) × (c .0 < word (now words) 2) ⌝ }
+    ensures { λ r. ⌜ nodeValue r ≡ nodeOf (decode (now (words .entry))) (c .0) ⌝ }
+{
+    let m = words[2];
+    let a = nodes_at(words);
+    nodes::node(&words[a..], m, c)
+}
+
+// Node c becomes x.
+pub fn set_node(words: &mut [u32], c: NodeId, x: Node)
+    requires { ⌜ Sound (now words) × (c .0 < word (now words) 2) ⌝ }
+    ensures { λ _. ⌜ now (words .exit) ≡ encode (setNode (decode (now (words .entry))) (c .0) (nodeValue x)) ⌝ }
+{
+    let m = words[2];
+    let a = nodes_at(words);
+    nodes::put(&mut words[a..], m, c, x);
+}
+
+// How many nodes are Reachable.
+pub fn reachable_count(words: &[u32]) -> u32
+    requires { ⌜ Sound (now words) ⌝ }
+    ensures { λ r. ⌜ r ≡ reachableCount (decode (now (words .entry))) ⌝ }
+{
+    let m = words[2];
+    let a = nodes_at(words);
+    nodes::reachable_count(&words[a..], m)
+}
+
+// How many Retired nodes process p has.
+pub fn retired_count(words: &[u32], p: ProcessId) -> u32
+    requires { ⌜ Sound (now words) ⌝ }
+    ensures { λ r. ⌜ r ≡ count (retiredBy (p .0)) (decode (now (words .entry)) .nodes) ⌝ }
+{
+    let m = words[2];
+    let a = nodes_at(words);
+    nodes::retired_count(&words[a..], m, p)
+}
+
+// ---- sweeps
+
+// Frees each Retired node of process p that is older than the delay and not marked, and answers how many.
+pub fn sweep_due(words: &mut [u32], p: ProcessId, marks: &[bool; 257]) -> u32
+    requires { ⌜ Sound (now words) ⌝ }
+    ensures { λ r. ⌜ Does (freeing (decode (now (words .entry))) (unmarked (decode (now (words .entry))) (p .0) (now (marks .entry)))) (now (words .exit)) r ⌝ }
+{
+    let m = words[2];
+    let delay = words[3];
+    let clock = words[6];
+    let a = nodes_at(words);
+    nodes::sweep_due(&mut words[a..], m, p, clock, delay, marks)
+}
+
+// Frees each Retired node of process p in the limbo list of the global epoch, and answers how many.
+pub fn sweep_expired(words: &mut [u32], p: ProcessId) -> u32
+    requires { ⌜ Sound (now words) ⌝ }
+    ensures { λ r. ⌜ Does (freeing (decode (now (words .entry))) (expired (decode (now (words .entry))) (p .0))) (now (words .exit)) r ⌝ }
+{
+    let m = words[2];
+    let epoch = words[8];
+    let a = nodes_at(words);
+    nodes::sweep_expired(&mut words[a..], m, p, epoch)
 }

@@ -120,7 +120,15 @@ pub fn mark(marks: &mut [bool; 257], v: u32)
 }
 
 // Is node c due: Retired by p more than `delay` before `clock`, its mark not set?
-fn due(nodes: &[u32], m: u32, c: NodeId, p: ProcessId, clock: u32, delay: u32, marks: &[bool; 257]) -> bool
+fn due(
+    nodes: &[u32],
+    m: u32,
+    c: NodeId,
+    p: ProcessId,
+    clock: u32,
+    delay: u32,
+    marks: &[bool; 257],
+) -> bool
     requires { ⌜ Part m (now nodes) × (c .0 < m) ⌝ }
     ensures { λ r. ⌜ r ≡ dueUnmarked (p .0) clock delay (now (marks .entry)) (c .0) (nodeIn m (now (nodes .entry)) (c .0)) ⌝ }
 {
@@ -145,7 +153,18 @@ fn free_if(nodes: &mut [u32], m: u32, c: NodeId, passed: bool) -> u32
     ensures { λ r. ⌜ Freed m (now (nodes .entry)) (c .0) passed (now (nodes .exit)) r ⌝ }
 {
     if passed {
-        put(nodes, m, c, Node { state: 0, owner: 0, guest: 0, retired: 0, limbo: 0 });
+        put(
+            nodes,
+            m,
+            c,
+            Node {
+                state: 0,
+                owner: 0,
+                guest: 0,
+                retired: 0,
+                limbo: 0,
+            },
+        );
         1
     } else {
         0
@@ -153,7 +172,14 @@ fn free_if(nodes: &mut [u32], m: u32, c: NodeId, passed: bool) -> u32
 }
 
 // Frees each node of p that is due, and answers how many.
-pub fn sweep_due(nodes: &mut [u32], m: u32, p: ProcessId, clock: u32, delay: u32, marks: &[bool; 257]) -> u32
+pub fn sweep_due(
+    nodes: &mut [u32],
+    m: u32,
+    p: ProcessId,
+    clock: u32,
+    delay: u32,
+    marks: &[bool; 257],
+) -> u32
     requires { ⌜ Part m (now nodes) ⌝ }
     ensures { λ r. ⌜ Swept (dueUnmarked (p .0) clock delay (now (marks .entry))) m (now (nodes .entry)) (now (nodes .exit)) r ⌝ }
 {

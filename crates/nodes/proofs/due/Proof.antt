@@ -62,7 +62,7 @@ element-copy-out-result c = search needs
 
 -- src/lib.rt:123:1
 returns : tie.Need-returns
-returns c = 
+returns c =
     due-test (nodeIn (c .before .before .before .before .before .before .before .before .before .args .m) (c .before .before .before .before .before .before .before .before .before .args .nodes .now) (c .before .before .before .before .before .before .before .before .before .args .c .0)) (c .before .before .before .before .before .before .before .before .before .args .marks .now) (c .before .before .before .before .before .before .before .before .before .args .p .0)
     (c .before .before .retired-by .ensures)
     (c .before .before .before .before .wide2 .ensures .0)

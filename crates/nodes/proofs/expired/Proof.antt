@@ -34,7 +34,7 @@ shared-slice-read-result c = search needs
 
 -- src/lib.rt:134:1
 returns : tie.Need-returns
-returns c = 
+returns c =
     ap₂ (λ (b : Bool) (n : ℕ). b && eqb n (c .before .before .before .before .args .epoch)) (c .before .retired-by .ensures)
     (word-at (c .before .before .before .before .pre .0) (c .before .before .before .before .pre .1) (c .before .before .offset .ensures .0) 4 (omega arith))
 

@@ -66,7 +66,7 @@ shared-slice-read-t21 c = search needs
 
 -- src/lib.rt:43:1
 returns : tie.Need-returns
-returns c = 
+returns c =
     let word = word-at (c .before .before .before .before .before .before .before .pre .0) (c .before .before .before .before .before .before .before .pre .1) (c .before .before .before .before .before .offset .ensures .0) in
     λ t. record {
       state = c .before .before .before .before .state-of .ensures t;

@@ -72,7 +72,7 @@ same-length c = search needs
 
 -- src/lib.rt:58:1
 returns : tie.Need-returns
-returns c = 
+returns c =
     simp towards-suc
     (rest-set (c .before .before .before .before .before .before .pre .0) (c .before .before .before .before .before .before .pre .1) (c .before .before .before .before .offset .ensures .0) _ (c .before .before .set-state .ensures))
 

@@ -34,7 +34,7 @@ shared-slice-read-result c = search needs
 
 -- src/lib.rt:92:1
 returns : tie.Need-returns
-returns c = 
+returns c =
     ap₂ (λ (s o : ℕ). eqb s 4 && eqb o (c .before .before .before .before .before .args .p .0)) (c .before .before .state-of .ensures)
     (word-at (c .before .before .before .before .before .pre .0) (c .before .before .before .before .before .pre .1) (c .before .before .before .offset .ensures .0) 1 (omega arith))
 
