@@ -1,3 +1,6 @@
 pub mod Encode
 pub mod Sound
 pub mod Whole
+pub mod Places
+pub mod Fits
+pub mod Checked

@@ -10,7 +10,7 @@ use Rattle.lists.specs.Rows.{rows, unrows}
 use Rattle.lists.proofs.Rows.{length-unrows, rows-unrows, codec-put, codec-rows}
 use Rattle.model.specs.Params.{bufferSize}
 use Rattle.model.specs.State.{noProcess}
-use Rattle.layout.specs.Shape.{Shape, Lead, word, leadOf, processWidth, nodesStart}
+use Rattle.layout.specs.Shape.{Shape, Lead, word, leadOf, processWidth, processStart, nodesStart}
 use Rattle.layout.specs.Codecs.{hazardCodec, pendingCodec}
 use Rattle.layout.specs.Encode.{processWordsBy, encodeBy, processBy, decodeBy}
 
@@ -26,7 +26,7 @@ pub record RowsFit (sh : Shape) (ws : List ℕ) : Type 0 where
       ≡ nodesStart sh (sh .head .get ws .params .processes) (sh .head .get ws .params .hazards) + sh .nodeWidth * sh .head .get ws .params .nodes
   pub rows : (p : ℕ) → p < sh .head .get ws .params .processes
       → RowFits sh (sh .head .get ws .params .hazards)
-      (take (processWidth sh (sh .head .get ws .params .hazards)) (drop (p * processWidth sh (sh .head .get ws .params .hazards)) (drop (sh .headWidth) ws)))
+      (take (processWidth sh (sh .head .get ws .params .hazards)) (drop (processStart sh (sh .head .get ws .params .hazards) p) ws))
 
 module _ (sh : Shape) where
   -- ---- a process's row
@@ -82,7 +82,7 @@ module _ (sh : Shape) where
         ≡ take (processes * width) (drop (sh .headWidth) ws)
     processes-forth =
         rows-unrows (processBy sh hazards) width noProcess (processWordsBy sh) processes (drop (sh .headWidth) ws)
-        (λ p h. process-forth hazards _ (f .rows p h))
+        (λ p h. rw drop-drop (process-forth hazards _ (f .rows p h)))
 
     nodes-forth : rows (sh .node .put) (unrows (sh .node .get) (sh .nodeWidth) nodes (drop (nodesStart sh processes hazards) ws))
         ≡ drop (nodesStart sh processes hazards) ws
