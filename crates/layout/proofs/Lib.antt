@@ -3,4 +3,5 @@ pub mod Sound
 pub mod Whole
 pub mod Places
 pub mod Fits
+pub mod FitsProcess
 pub mod Checked

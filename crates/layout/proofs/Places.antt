@@ -2,12 +2,12 @@
 -- Assumes nothing.
 use Prim.Native.Nat.{ℕ, _+_, _*_, _<_, _≤_}
 use mathlib.Core.List.{List, []}
-use mathlib.Core.Path.{_≡_, refl, sym, _∙_, ap}
+use mathlib.Core.Path.{_≡_, sym, _∙_, ap}
 use native.Mathlib.Omega.{arith}
-use lib.ListN.{length, take, drop, getD}
+use lib.ListN.{take, drop, getD}
 use lib.Seq.{getD-take, getD-drop, drop-drop}
 use Rattle.lists.proofs.Rows.{unrows-at, part-part}
-use Rattle.model.specs.State.{Pending, Hazard, Process, Node, emptyHazard}
+use Rattle.model.specs.State.{Pending, Hazard, Node, emptyHazard}
 use Rattle.layout.specs.Shape.{word, hazardAt, pendingAt, nodeAt}
 use Rattle.layout.specs.Encode.{processAt, processBy}
 

@@ -1,16 +1,16 @@
 -- Words in the right shape, in any layout, are the words of the domain that they decode to. Assumes nothing.
 use Prim.Native.Nat.{ℕ, _+_, _*_, _-_, _<_, _≤_}
-use mathlib.Core.List.{List, [], _++_}
-use mathlib.Core.Path.{_≡_, refl, sym, _∙_, ap, ap₂}
+use mathlib.Core.List.{List, []}
+use mathlib.Core.Path.{_≡_, sym, _∙_}
 use native.Mathlib.Omega.{arith}
 use native.Mathlib.Nat.{mul-comm}
 use lib.ListN.{length, take, drop, getD, replicate, length-drop, length-replicate, getD-replicate, take-append-drop}
-use lib.Seq.{drop-drop, take-add, take-all, ext-getD, getD-drop}
+use lib.Seq.{drop-drop, take-all, ext-getD, getD-drop}
 use Rattle.lists.specs.Rows.{rows, unrows}
 use Rattle.lists.proofs.Rows.{length-unrows, rows-unrows, codec-put, codec-rows}
 use Rattle.model.specs.Params.{bufferSize}
 use Rattle.model.specs.State.{noProcess}
-use Rattle.layout.specs.Shape.{Shape, Lead, word, leadOf, processWidth, processStart, nodesStart}
+use Rattle.layout.specs.Shape.{Shape, word, processWidth, processStart, nodesStart}
 use Rattle.layout.specs.Codecs.{hazardCodec, pendingCodec}
 use Rattle.layout.specs.Encode.{processWordsBy, encodeBy, processBy, decodeBy}
 

@@ -90,7 +90,7 @@ module _ {X : Type 0} (put : X → List ℕ) (w : ℕ) (x₀ : X) where
 -- ---- rows read off a list
 
 -- row i of a list of at least n rows
-pub row-length : (w n i : ℕ) (ws : List ℕ) → i < n → n * w ≤ length ws → length (take w (drop (i * w) ws)) ≡ w
+row-length : (w n i : ℕ) (ws : List ℕ) → i < n → n * w ≤ length ws → length (take w (drop (i * w) ws)) ≡ w
 row-length w n i ws l h = simp (length-take, length-drop) (omega (arith, below i n w l))
 
 module _ {X : Type 0} (get : List ℕ → X) (w : ℕ) (x₀ : X) where
