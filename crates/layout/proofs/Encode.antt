@@ -7,15 +7,17 @@ use native.Mathlib.Omega.{arith}
 use native.Mathlib.Nat.{mul-comm}
 use lib.ListN.{length, take, drop, replicate, length-append, length-drop, length-replicate, drop-of-length-le}
 use lib.Seq.{drop-drop, take-at, drop-at, take-append-add, drop-append-add, take-append-seam, drop-append-seam}
+use lib.Seq.{getD-drop, getD-append-add}
 use borrow.Rule.Slice.PartMut.{putMid}
 use Rattle.lists.specs.Rows.{rows, unrows}
 use Rattle.lists.proofs.Facts.{all-at}
+use Rattle.lists.proofs.Stores.{replicate-at}
 use Rattle.lists.proofs.Rows.{Wide, length-rows, rows-row, rows-splice, unrows-rows, mid-part, mid-splice, below}
 use Rattle.lists.proofs.Rows.{codec-get, codec-length, codec-unrows}
 use Rattle.model.specs.Params.{bufferSize}
 use Rattle.model.specs.State.{Process, Node, Domain, noProcess, processOf, withNodes, setProcess}
 use Rattle.model.specs.WellFormed.{ProcessFits, WellFormed}
-use Rattle.layout.specs.Shape.{Shape, Head, headOf, leadOf, processWidth, processStart, nodesStart}
+use Rattle.layout.specs.Shape.{Shape, Head, word, headOf, leadOf, processWidth, processStart, nodesStart}
 use Rattle.layout.specs.Codecs.{hazardCodec, pendingCodec}
 use Rattle.layout.specs.Encode.{bufferWords, processWordsBy, encodeBy, processBy, decodeBy}
 
@@ -75,6 +77,15 @@ module _ (sh : Shape) where
         sym (drop-drop (k * 3) (sh .leadWidth) (processWordsBy sh x))
         ∙ (ap (λ (r : List ℕ). drop (k * 3) r) hazards-start
         ∙ drop-at hs (bufferWords (x .buffer)) (k * 3) (rw (← hk) (codec-length hazardCodec (x .hazards))))
+
+    -- the words past the pending stores
+    pub past-stores : (j : ℕ) → length (x .buffer) * 3 ≤ j → word (processWordsBy sh x) (sh .leadWidth + k * 3 + j) ≡ 0
+    past-stores j h =
+        let n : ℕ = length (x .buffer) * 3 in
+        let e : j ≡ length (rows (pendingCodec .put) (x .buffer)) + (j - n) = omega (arith, codec-length pendingCodec (x .buffer)) in
+        sym (getD-drop (sh .leadWidth + k * 3) (processWordsBy sh x) j 0)
+        ∙ (ap (λ (r : List ℕ). word r j) buffer-start
+        ∙ rw (e, getD-append-add) (replicate-at (λ v. v ≡ 0) (24 - n) 0 0 (j - n) refl refl))
 
     pub process-back : processBy sh k (processWordsBy sh x) ≡ x
     unfolding processBy processWordsBy

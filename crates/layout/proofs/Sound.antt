@@ -15,7 +15,8 @@ use Rattle.layout.specs.Shape.{word, nodeWords}
 use Rattle.layout.specs.Codecs.{shape}
 use Rattle.layout.specs.Encode.{processWords, encode, decode, encodeBy, decodeBy}
 use Rattle.layout.specs.Sound.{Sizes, Sound}
-use Rattle.layout.proofs.Encode.{laid, encode-length, decode-encode, process-part, process-put, nodes-part, nodes-lent}
+use Rattle.layout.proofs.Encode.{laid, encode-length, decode-encode, process-part, process-put, nodes-part}
+use Rattle.layout.proofs.Encode.{nodes-lent}
 
 -- the words of all processes are few
 pub rows-small : (n k : ℕ) → n ≤ 16 → k ≤ 8 → n * (28 + 3 * k) ≤ 832

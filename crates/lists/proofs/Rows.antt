@@ -7,7 +7,7 @@ use native.Mathlib.Omega.{arith}
 use native.Mathlib.Nat.{zero-mul, suc-mul, zero-add, suc-add, add-suc, mul-le-mul-right, not-suc-le-zero}
 use lib.ListN.{length, take, drop, getD, set, length-append, length-take, length-drop, List·getD-append}
 use lib.Seq.{length-take-le, take-append-le, take-append-add, drop-append-add, getD-append-add, set-append-left}
-use lib.Seq.{drop-append-le, take-at, drop-at, drop-drop, take-add, sets, sets-eq}
+use lib.Seq.{drop-append-le, take-at, drop-at, drop-drop, take-take, take-nil, take-add, sets, sets-eq}
 use Rattle.lists.specs.Rows.{rows, unrows, Codec}
 
 -- each row is w numbers wide
@@ -90,7 +90,7 @@ module _ {X : Type 0} (put : X → List ℕ) (w : ℕ) (x₀ : X) where
 -- ---- rows read off a list
 
 -- row i of a list of at least n rows
-pub row-length : (w n i : ℕ) (ws : List ℕ) → i < n → n * w ≤ length ws → length (take w (drop (i * w) ws)) ≡ w
+row-length : (w n i : ℕ) (ws : List ℕ) → i < n → n * w ≤ length ws → length (take w (drop (i * w) ws)) ≡ w
 row-length w n i ws l h = simp (length-take, length-drop) (omega (arith, below i n w l))
 
 module _ {X : Type 0} (get : List ℕ → X) (w : ℕ) (x₀ : X) where
@@ -123,6 +123,18 @@ module _ {X : Type 0} (get : List ℕ → X) (w : ℕ) (x₀ : X) where
         let s : (i : ℕ) → i < n → put (get (take w (drop (i * w) (drop w ws)))) ≡ take w (drop (i * w) (drop w ws)) =
         λ i l. rw drop-drop (let f : w + i * w ≡ suc i * w = omega (arith, suc-mul i w) in rw f (g (suc i) (omega arith))) in
         rw (e, take-add, z, rows-unrows n (drop w ws) s)
+
+  -- row i of n rows from o on
+  pub unrows-at : (n o i : ℕ) (ws : List ℕ) → i < n → getD (unrows get w n (drop o ws)) i x₀ ≡ get (take w (drop (o + i * w) ws))
+  unrows-at n o i ws l = unrows-getD n i (drop o ws) l ∙ rw drop-drop
+
+-- ---- a part of a part
+
+pub part-part : (v b w : ℕ) (l : List ℕ) → b + v ≤ w → take v (drop b (take w l)) ≡ take v (drop b l)
+part-part v zero w l h = take-take v w l (omega arith)
+part-part v (suc b) w [] h = rw (take-nil w)
+part-part v (suc b) zero (x ∷ l) h = absurd (omega arith)
+part-part v (suc b) (suc w) (x ∷ l) h = part-part v b w l (omega arith)
 
 -- ---- a part of the middle list of three, read and replaced
 

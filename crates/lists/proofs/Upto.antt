@@ -1,11 +1,14 @@
 -- What a loop that counts up makes: its start, a turn of it, and what its end says of each number below the bound. Assumes nothing.
 use Prim.Native.Nat.{ℕ, zero, suc, _+_, _<_}
 use mathlib.Core.Bool.{Bool, true, false, _&&_, _||_}
+use mathlib.Core.List.{List, [], _∷_}
 use mathlib.Core.Path.{_≡_, refl, sym, subst}
 use mathlib.Core.Logic.{⊎-elim}
 use native.Mathlib.Omega.{arith}
 use native.Mathlib.Numerals.{add-one}
 use native.Mathlib.Nat.{not-suc-le-zero, eq-or-lt-of-le, le-of-suc-le-suc}
+use lib.ListN.{length, getD}
+use Rattle.lists.specs.Tests.{All}
 use Rattle.lists.specs.Upto.{allUpto, anyUpto, sumUpto}
 use Rattle.lists.proofs.Bools.{both}
 
@@ -64,3 +67,7 @@ pub all-yes : (f : ℕ → Bool) (n : ℕ) → ((i : ℕ) → i < n → f i ≡ 
 unfolding allUpto
 all-yes f zero h = refl
 all-yes f (suc n) h = rw (all-yes f n (λ i l. h i (omega arith)), h n (omega arith))
+
+pub all-of : {A : Type 0} (P : A → Type 0) (a : A) (l : List A) → ((i : ℕ) → i < length l → P (getD l i a)) → All P l
+all-of P a [] h = tt
+all-of P a (x ∷ xs) h = (h 0 (omega arith), all-of P a xs (λ i l. h (suc i) (omega arith)))
