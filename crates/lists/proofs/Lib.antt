@@ -4,3 +4,7 @@ pub mod Facts
 pub mod Counts
 pub mod Sweeps
 pub mod Pigeonhole
+pub mod Rows
+pub mod RowParts
+pub mod Moves
+pub mod Turns

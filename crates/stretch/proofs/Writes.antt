@@ -1,0 +1,1 @@
+-- Writing into the words of a process. Assumes nothing.
