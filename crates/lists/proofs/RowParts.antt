@@ -40,6 +40,10 @@ unrows-word {w = w} c x₀ n i j d ws l m u =
     ap (λ x. getD (c .put x) j d) (unrows-getD (c .get) w x₀ n i ws l)
     ∙ (ap (λ (r : List ℕ). getD r j d) (c .forth (take w q) k) ∙ (getD-take w q j d u ∙ getD-drop (i * w) ws j d))
 
--- the middle list of three lent and given back
-pub put-part : (a w : ℕ) (p t z ys : List ℕ) → length p ≡ a → length t ≡ w → putMid a w (p ++ (t ++ z)) ys ≡ p ++ (ys ++ z)
-put-part a w p t z ys e f = rw (take-at p (t ++ z) a e, drop-at p (t ++ z) a e, drop-at t z w f)
+-- the middle list of three lent, and another given back
+module _ (a w : ℕ) (p t z : List ℕ) (e : length p ≡ a) (f : length t ≡ w) where
+  pub lent-part : take w (drop a (p ++ (t ++ z))) ≡ t
+  lent-part = rw (drop-at p (t ++ z) a e, take-at t z w f)
+
+  pub put-part : (ys : List ℕ) → putMid a w (p ++ (t ++ z)) ys ≡ p ++ (ys ++ z)
+  put-part ys = rw (take-at p (t ++ z) a e, drop-at p (t ++ z) a e, drop-at t z w f)

@@ -56,15 +56,15 @@ pub fn assign(row: &mut [u32], k: usize, h: HazardId, node: u32, time: u32)
     requires { ⌜ (h .0 < k) × (length (processAt k (now row) .buffer) < 8) ⌝ }
     ensures { λ _. ⌜ now (row .exit) ≡ processWords (assigning (processAt k (now (row .entry))) (h .0) node time) ⌝ }
 {
+    let stores = row[3];
     let at = 4 + 3 * layout::wide(h.0);
+    let end = 4 + 3 * k + 3 * layout::wide(stores);
     row[at + 1] = node;
     row[at + 2] = 0;
-    let stores = row[3];
-    let end = 4 + 3 * k + 3 * layout::wide(stores);
+    row[3] = stores + 1;
     row[end] = h.0;
     row[end + 1] = node;
     row[end + 2] = time;
-    row[3] = stores + 1;
 }
 
 // Validates hazard h.
@@ -105,8 +105,9 @@ pub fn drain(row: &mut [u32], k: usize)
     requires { ⌜ Stretch k (now row) × (length (processAt k (now row) .buffer) ≢ 0) ⌝ }
     ensures { λ _. ⌜ now (row .exit) ≡ processWords (drained (processAt k (now (row .entry))) (processAt k (now (row .entry)) .buffer)) ⌝ }
 {
+    let stores = row[3];
     commit(row, k, 0);
-    row[3] = row[3] - 1;
+    row[3] = stores - 1;
     shift(&mut row[4 + 3 * k..]);
 }
 

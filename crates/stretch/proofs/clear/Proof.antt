@@ -1,3 +1,9 @@
+use Prim.Native.Nat.{_-_, _≤_}
+use mathlib.Core.List.{_++_, append-nil}
+use mathlib.Core.Path.{_≡_, refl}
+use lib.ListN.{length, drop, replicate, length-set}
+use lib.Seq.{drop-length}
+use borrow.Author.Fill.{fill-none, fill-more}
 use native.Mathlib.Omega.{arith}
 use borrow.Author.Needs.{needs}
 use Rattle.stretch.proofs.clear.Statement.{statement}
@@ -6,14 +12,14 @@ use Rattle.stretch.proofs.clear.Reads as reads
 use Rattle.stretch.proofs.clear.Lts as lts
 
 abbrev Inv-loop : tie.InvT-loop
-Inv-loop words₀ i₀ words i = ?
+Inv-loop words₀ i₀ words i = (i ≤ length words₀) × (length words ≡ length words₀) × (words ≡ replicate i 0 ++ drop i words₀)
 
 abbrev μ-loop : tie.MeasureT-loop
-μ-loop words₀ i₀ words i = ?
+μ-loop words₀ i₀ words i = length words₀ - i
 
 -- src/lib.rt:118:5
 loop-holds : tie.Need-loop-holds Inv-loop μ-loop
-loop-holds c = search needs
+loop-holds c = (omega arith, refl, fill-none _ 0)
 
 -- src/lib.rt:119:9
 mul-words : tie.Need-mul-words Inv-loop μ-loop
@@ -33,7 +39,10 @@ loop-less c = search needs
 
 -- src/lib.rt:118:5
 loop-again : tie.Need-loop-again Inv-loop μ-loop
-loop-again c = search needs
+loop-again c = 
+    (omega arith,
+    simp length-set (omega arith),
+    rw (c .before .loop .inv .2) (fill-more (c .before .loop .i) 0 (c .before .before .args .words .now) (omega arith)))
 
 -- src/lib.rt:114:1
 same-length : tie.Need-same-length Inv-loop μ-loop
@@ -41,7 +50,9 @@ same-length c = search needs
 
 -- src/lib.rt:114:1
 returns : tie.Need-returns Inv-loop μ-loop
-returns c = search needs
+returns c = 
+    let e : c .before .loop .i ≡ length (c .before .before .args .words .now) = omega arith in
+    rw (c .before .loop .inv .2, e, drop-length, append-nil)
 
 pub clear-spec : {M : Type 1} → statement M
 clear-spec =

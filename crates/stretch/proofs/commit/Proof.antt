@@ -1,3 +1,5 @@
+use mathlib.Core.Path.{_≡_, refl}
+use Rattle.stretch.proofs.Changes.{aims, committed}
 use native.Mathlib.Omega.{arith}
 use borrow.Author.Needs.{needs}
 use Rattle.stretch.proofs.commit.Statement.{statement}
@@ -60,7 +62,7 @@ mul-row-3 c = search needs
 
 -- src/lib.rt:85:5
 slice-write-row : tie.Need-slice-write-row
-slice-write-row c = search needs
+slice-write-row c = omega (arith, aims _ _ (c .before .before .before .before .pre .0) _ (c .before .before .before .before .pre .1) _ refl)
 
 -- src/lib.rt:79:1
 same-length : tie.Need-same-length
@@ -68,7 +70,7 @@ same-length c = search needs
 
 -- src/lib.rt:79:1
 returns : tie.Need-returns
-returns c = search needs
+returns c = committed _ _ (c .before .before .before .before .pre .0) _ (c .before .before .before .before .pre .1) _ _ _ refl (c .before .wide .ensures .0) refl
 
 pub commit-spec : {M : Type 1} → statement M
 commit-spec =

@@ -1,3 +1,5 @@
+use mathlib.Core.Path.{_≡_, ap, _∙_}
+use Rattle.stretch.proofs.Words.{hazard-at}
 use native.Mathlib.Omega.{arith}
 use borrow.Author.Needs.{needs}
 use Rattle.stretch.proofs.hazard.Statement.{statement}
@@ -52,7 +54,7 @@ shared-slice-read-t15 c = search needs
 
 -- src/lib.rt:41:1
 returns : tie.Need-returns
-returns c = search needs
+returns c = hazard-at _ _ _ _ (c .before .before .before .before .before .pre .1) (c .before .before .before .before .before .pre .0) (omega arith)
 
 pub hazard-spec : {M : Type 1} → statement M
 hazard-spec =

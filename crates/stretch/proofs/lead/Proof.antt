@@ -1,3 +1,4 @@
+use Rattle.stretch.proofs.Words.{lead-at}
 use native.Mathlib.Omega.{arith}
 use borrow.Author.Needs.{needs}
 use Rattle.stretch.proofs.lead.Statement.{statement}
@@ -23,7 +24,7 @@ shared-slice-read-t9 c = search needs
 
 -- src/lib.rt:18:1
 returns : tie.Need-returns
-returns c = search needs
+returns c = λ k. lead-at k _
 
 pub lead-spec : {M : Type 1} → statement M
 lead-spec =

@@ -1,3 +1,8 @@
+use Prim.Native.Nat.{_-_, _≤_}
+use mathlib.Core.Path.{_≡_, refl}
+use mathlib.Core.List.{[], _∷_}
+use lib.ListN.{length, length-set}
+use Rattle.lists.proofs.Moves.{moved, moved-none, moved-more, moved-end}
 use native.Mathlib.Omega.{arith}
 use borrow.Author.Needs.{needs}
 use Rattle.stretch.proofs.shift.Statement.{statement}
@@ -6,14 +11,14 @@ use Rattle.stretch.proofs.shift.Reads as reads
 use Rattle.stretch.proofs.shift.Lts as lts
 
 abbrev Inv-loop : tie.InvT-loop
-Inv-loop buffer₀ j₀ buffer j = ?
+Inv-loop buffer₀ j₀ buffer j = (j ≤ 21) × (length buffer ≡ 24) × (buffer ≡ moved 3 j buffer₀)
 
 abbrev μ-loop : tie.MeasureT-loop
-μ-loop buffer₀ j₀ buffer j = ?
+μ-loop buffer₀ j₀ buffer j = 21 - j
 
 -- src/lib.rt:94:5
 loop-holds : tie.Need-loop-holds Inv-loop μ-loop
-loop-holds c = search needs
+loop-holds c = (omega arith, c .pre, moved-none 3 _)
 
 -- src/lib.rt:95:28
 add-buffer : tie.Need-add-buffer Inv-loop μ-loop
@@ -45,7 +50,7 @@ loop-less c = search needs
 
 -- src/lib.rt:94:5
 loop-again : tie.Need-loop-again Inv-loop μ-loop
-loop-again c = search needs
+loop-again c = (omega arith, simp length-set (omega arith), rw (c .before .before .loop .inv .2) (moved-more 3 _ _ (omega arith)))
 
 -- src/lib.rt:98:5
 slice-write-buffer-2 : tie.Need-slice-write-buffer-2 Inv-loop μ-loop
@@ -61,11 +66,13 @@ slice-write-buffer-4 c = search needs
 
 -- src/lib.rt:89:1
 same-length : tie.Need-same-length Inv-loop μ-loop
-same-length c = search needs
+same-length c = simp length-set (omega arith)
 
 -- src/lib.rt:89:1
 returns : tie.Need-returns Inv-loop μ-loop
-returns c = search needs
+returns c = 
+    let e : c .before .loop .j ≡ 21 = omega arith in
+    rw (c .before .loop .inv .2, e) (moved-end 3 21 _ (0 ∷ 0 ∷ 0 ∷ []) (c .before .before .pre) refl)
 
 pub shift-spec : {M : Type 1} → statement M
 shift-spec =

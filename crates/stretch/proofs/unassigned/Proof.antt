@@ -1,3 +1,13 @@
+use Prim.Native.Nat.{ℕ, _-_, _≤_, _+_, _*_}
+use mathlib.Core.Bool.{Bool, _&&_}
+use mathlib.Core.Path.{_≡_, refl, sym, ap}
+use lib.ListN.{drop}
+use lib.Dec.{eqb}
+use Rattle.lists.specs.Tests.{every}
+use Rattle.lists.proofs.Turns.{Tested, tested-none, tested-more, tested-all}
+use Rattle.model.specs.State.{Hazard, emptyHazard}
+use Rattle.layout.specs.Encode.{processAt}
+use Rattle.stretch.proofs.Words.{hazard-word, hazards-length}
 use native.Mathlib.Omega.{arith}
 use borrow.Author.Needs.{needs}
 use Rattle.stretch.proofs.unassigned.Statement.{statement}
@@ -6,14 +16,15 @@ use Rattle.stretch.proofs.unassigned.Reads as reads
 use Rattle.stretch.proofs.unassigned.Lts as lts
 
 abbrev Inv-loop : tie.InvT-loop
-Inv-loop row k ok₀ h₀ ok h = ?
+Inv-loop row k ok₀ h₀ ok h =
+    (h ≤ k) × Tested (λ y. eqb (y .assigned) 0) (processAt k row .hazards) h ok
 
 abbrev μ-loop : tie.MeasureT-loop
-μ-loop row k ok₀ h₀ ok h = ?
+μ-loop row k ok₀ h₀ ok h = k - h
 
 -- src/lib.rt:172:5
 loop-holds : tie.Need-loop-holds Inv-loop μ-loop
-loop-holds c = search needs
+loop-holds c = (omega arith, tested-none)
 
 -- src/lib.rt:173:28
 mul-ok : tie.Need-mul-ok Inv-loop μ-loop
@@ -45,11 +56,15 @@ loop-less c = search needs
 
 -- src/lib.rt:172:5
 loop-again : tie.Need-loop-again Inv-loop μ-loop
-loop-again c = search needs
+loop-again c = 
+    (omega arith,
+    tested-more emptyHazard (c .before .before .loop .inv .1)
+    (omega (arith, hazards-length (c .before .before .before .args .k) (c .before .before .before .args .row .now)))
+    (ap (λ (n : ℕ). eqb n 0) (sym (hazard-word _ _ _ 1 _ (omega arith) (omega arith) (omega arith) refl))))
 
 -- src/lib.rt:166:1
 returns : tie.Need-returns Inv-loop μ-loop
-returns c = search needs
+returns c = tested-all (c .before .loop .inv .1) (omega (arith, hazards-length (c .before .before .args .k) (c .before .before .args .row .now)))
 
 pub unassigned-spec : {M : Type 1} → statement M
 unassigned-spec =

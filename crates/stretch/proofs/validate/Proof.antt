@@ -1,3 +1,4 @@
+use Rattle.stretch.proofs.Changes.{validated}
 use native.Mathlib.Omega.{arith}
 use borrow.Author.Needs.{needs}
 use Rattle.stretch.proofs.validate.Statement.{statement}
@@ -36,7 +37,7 @@ same-length c = search needs
 
 -- src/lib.rt:71:1
 returns : tie.Need-returns
-returns c = search needs
+returns c = validated _ _ (c .before .before .pre .0) _ _ (c .before .before .pre .1) (omega arith)
 
 pub validate-spec : {M : Type 1} → statement M
 validate-spec =

@@ -1,3 +1,13 @@
+use Prim.Native.Nat.{ℕ, _-_, _≤_}
+use mathlib.Core.Bool.{Bool, _&&_}
+use mathlib.Core.Path.{_≡_, refl}
+use lib.ListN.{length, drop}
+use lib.Dec.{ltb}
+use Rattle.lists.specs.Tests.{every}
+use Rattle.lists.proofs.Turns.{Tested, tested-none, tested-more, tested-all}
+use Rattle.model.specs.State.{Pending}
+use Rattle.stretch.specs.Stretch.{noStore}
+use Rattle.layout.specs.Encode.{processAt}
 use native.Mathlib.Omega.{arith}
 use borrow.Author.Needs.{needs}
 use Rattle.stretch.proofs.young.Statement.{statement}
@@ -8,10 +18,11 @@ use Rattle.layout.proofs.wide.Reads as wide-reads
 use Rattle.stretch.proofs.young_store.Reads as young-store-reads
 
 abbrev Inv-loop : tie.InvT-loop
-Inv-loop row k clock delay stores ok₀ e₀ ok e = ?
+Inv-loop row k clock delay stores ok₀ e₀ ok e =
+    (e ≤ length (processAt k row .buffer)) × Tested (λ q. ltb (clock - q .time) delay) (processAt k row .buffer) e ok
 
 abbrev μ-loop : tie.MeasureT-loop
-μ-loop row k clock delay stores ok₀ e₀ ok e = ?
+μ-loop row k clock delay stores ok₀ e₀ ok e = stores - e
 
 -- src/lib.rt:155:31
 shared-slice-read-wide : tie.Need-shared-slice-read-wide Inv-loop μ-loop
@@ -23,7 +34,7 @@ wide-requires c κs = search needs
 
 -- src/lib.rt:158:5
 loop-holds : tie.Need-loop-holds Inv-loop μ-loop
-loop-holds c = search needs
+loop-holds c = (omega arith, tested-none)
 
 -- src/lib.rt:159:19
 young-store-requires : tie.Need-young-store-requires Inv-loop μ-loop
@@ -39,11 +50,12 @@ loop-less c = search needs
 
 -- src/lib.rt:158:5
 loop-again : tie.Need-loop-again Inv-loop μ-loop
-loop-again c = search needs
+loop-again c = 
+    (omega arith, tested-more noStore (c .before .before .loop .inv .1) (omega arith) (c .young-store .ensures))
 
 -- src/lib.rt:151:1
 returns : tie.Need-returns Inv-loop μ-loop
-returns c = search needs
+returns c = tested-all (c .before .loop .inv .1) (omega arith)
 
 pub young-spec : {M : Type 1} → statement M
 young-spec =

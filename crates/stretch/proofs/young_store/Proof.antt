@@ -1,3 +1,6 @@
+use mathlib.Core.Path.{_≡_, refl, _∙_}
+use Rattle.stretch.proofs.Changes.{time-at}
+use Rattle.stretch.proofs.Ages.{younger}
 use native.Mathlib.Omega.{arith}
 use borrow.Author.Needs.{needs}
 use Rattle.stretch.proofs.young_store.Statement.{statement}
@@ -52,7 +55,10 @@ add-result c = search needs
 
 -- src/lib.rt:142:1
 returns : tie.Need-returns
-returns c = search needs
+returns c =
+    younger _ _ _ _ _ _ (c .before .wide2 .ensures .0)
+    (c .before .before .wide .ensures .0 ∙ time-at _ _ (c .before .before .before .before .before .pre .0) _ (c .before .before .before .before .before .pre .1) _ refl)
+    (c .wide3 .ensures .0)
 
 pub young-store-spec : {M : Type 1} → statement M
 young-store-spec =
