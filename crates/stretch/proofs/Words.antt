@@ -62,7 +62,7 @@ module _ (x : Process) (k : ℕ) (hk : length (x .hazards) ≡ k) where
       rw rest (unrows-rows pendingAt 3 noStore pendingWords (x .buffer) _ (λ i l. refl) (λ i l. refl)) in
       λ t. record { epoch = x .epoch; calls = x .calls; presence = x .presence; buffer = buffer t; hazards = hazards t }
 
-  width-process : length (x .buffer) ≤ 8 → length (processWords x) ≡ 28 + 3 * k
+  pub width-process : length (x .buffer) ≤ 8 → length (processWords x) ≡ 28 + 3 * k
   width-process room =
       let n : ℕ = length (x .buffer) in
       rw front-buffer

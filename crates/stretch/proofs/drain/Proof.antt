@@ -1,3 +1,6 @@
+use mathlib.Core.Path.{_≡_, refl, _∙_}
+use lib.ListN.{length-set, length-take, length-drop}
+use Rattle.stretch.proofs.Buffers.{drains}
 use native.Mathlib.Omega.{arith}
 use borrow.Author.Needs.{needs}
 use Rattle.stretch.proofs.drain.Statement.{statement}
@@ -37,27 +40,28 @@ mul-shift-2 c = search needs
 
 -- src/lib.rt:111:11
 sub-shift : tie.Need-sub-shift
-sub-shift c = search needs
+sub-shift c = simp length-set (omega arith)
 
 -- src/lib.rt:111:11
 part-shift-start : tie.Need-part-shift-start
-part-shift-start c = search needs
+part-shift-start c = simp length-set (omega arith)
 
 -- src/lib.rt:111:11
 part-shift-end : tie.Need-part-shift-end
-part-shift-end c = search needs
+part-shift-end c = simp length-set (omega arith)
 
 -- src/lib.rt:111:5
 shift-requires : tie.Need-shift-requires
-shift-requires c κs = search needs
+shift-requires c κs = simp (length-take, length-drop, length-set) (omega arith)
 
 -- src/lib.rt:104:1
 same-length : tie.Need-same-length
-same-length c = search needs
+same-length c = c .before .row2 .given .1 ∙ simp length-set (omega arith)
 
 -- src/lib.rt:104:1
 returns : tie.Need-returns
-returns c = search needs
+returns c = 
+    drains _ _ (c .before .before .before .before .before .before .before .before .before .before .pre .0) _ _ _ (c .before .before .before .before .before .before .before .before .before .before .pre .1) (c .before .before .before .before .before .before .commit .ensures) refl (c .before .before .shift .ensures)
 
 pub drain-spec : {M : Type 1} → statement M
 drain-spec =

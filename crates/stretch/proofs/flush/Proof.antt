@@ -1,3 +1,8 @@
+use Prim.Native.Nat.{_-_, _≤_}
+use mathlib.Core.Path.{_≡_, refl, ap, _∙_}
+use lib.ListN.{length, length-set}
+use Rattle.layout.specs.Encode.{processAt}
+use Rattle.stretch.proofs.Buffers.{Flushing, flush-starts, flush-turn, flush-ends}
 use native.Mathlib.Omega.{arith}
 use borrow.Author.Needs.{needs}
 use Rattle.stretch.proofs.flush.Statement.{statement}
@@ -9,10 +14,10 @@ use Rattle.stretch.proofs.clear.Reads as clear-reads
 use Rattle.stretch.proofs.commit.Reads as commit-reads
 
 abbrev Inv-loop : tie.InvT-loop
-Inv-loop row₀ k stores e₀ row e = ?
+Inv-loop row₀ k stores e₀ row e = (e ≤ stores) × (stores ≡ length (processAt k row₀ .buffer)) × Flushing k row₀ row e
 
 abbrev μ-loop : tie.MeasureT-loop
-μ-loop row₀ k stores e₀ row e = ?
+μ-loop row₀ k stores e₀ row e = stores - e
 
 -- src/lib.rt:130:31
 slice-read-wide : tie.Need-slice-read-wide Inv-loop μ-loop
@@ -24,11 +29,11 @@ wide-requires c κs = search needs
 
 -- src/lib.rt:132:5
 loop-holds : tie.Need-loop-holds Inv-loop μ-loop
-loop-holds c = search needs
+loop-holds c = (omega arith, omega arith, flush-starts _ _ (c .before .before .before .pre))
 
 -- src/lib.rt:133:9
 commit-requires : tie.Need-commit-requires Inv-loop μ-loop
-commit-requires c κs = search needs
+commit-requires c κs = (c .before .before .loop .inv .2 .stretch, omega (arith, ap length (c .before .before .loop .inv .2 .buffer)))
 
 -- src/lib.rt:134:9
 add-e : tie.Need-add-e Inv-loop μ-loop
@@ -40,7 +45,7 @@ loop-less c = search needs
 
 -- src/lib.rt:132:5
 loop-again : tie.Need-loop-again Inv-loop μ-loop
-loop-again c = search needs
+loop-again c = (omega arith, c .before .before .before .before .before .loop .inv .1, flush-turn _ _ _ _ (c .before .before .before .before .before .loop .inv .2) _ (omega arith) (c .before .before .commit .ensures))
 
 -- src/lib.rt:136:5
 slice-write-row : tie.Need-slice-write-row Inv-loop μ-loop
@@ -76,7 +81,7 @@ part-clear-start c = search needs
 
 -- src/lib.rt:139:11
 part-clear-end : tie.Need-part-clear-end Inv-loop μ-loop
-part-clear-end c = search needs
+part-clear-end c = simp length-set (omega arith)
 
 -- src/lib.rt:139:5
 clear-requires : tie.Need-clear-requires Inv-loop μ-loop
@@ -84,11 +89,11 @@ clear-requires c κs = search needs
 
 -- src/lib.rt:126:1
 same-length : tie.Need-same-length Inv-loop μ-loop
-same-length c = search needs
+same-length c = c .before .row2 .given .1 ∙ simp length-set (omega arith)
 
 -- src/lib.rt:126:1
 returns : tie.Need-returns Inv-loop μ-loop
-returns c = search needs
+returns c = flush-ends _ _ _ _ (c .before .before .before .before .before .loop .inv .2) _ _ _ (omega arith) (omega arith) refl (c .before .before .clear .ensures)
 
 pub flush-spec : {M : Type 1} → statement M
 flush-spec =
