@@ -7,4 +7,7 @@ pub mod Pigeonhole
 pub mod Table
 pub mod Upto
 pub mod Rows
+pub mod RowParts
+pub mod Moves
 pub mod Turns
+pub mod Tested
