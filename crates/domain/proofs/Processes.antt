@@ -1,0 +1,63 @@
+-- A process's stretch of a domain's words, as it is lent and as it comes back. Assumes nothing.
+use Prim.Native.Nat.{ℕ, _+_, _*_, _-_, _<_, _≤_}
+use mathlib.Core.List.{List}
+use mathlib.Core.Path.{_≡_, refl, sym, _∙_, ap}
+use native.Mathlib.Omega.{arith}
+use lib.ListN.{length, take, drop}
+use borrow.Rule.Slice.PartMut.{putMid}
+use Rattle.lists.specs.Tests.{All}
+use Rattle.lists.proofs.Facts.{all-map}
+use Rattle.model.specs.WellFormed.{PendingFits, ProcessFits}
+use Rattle.model.specs.State.{Process, processOf, setProcess}
+use Rattle.model.proofs.WellFormed.{process-fits}
+use Rattle.layout.specs.Shape.{word}
+use Rattle.layout.specs.Codecs.{shape}
+use Rattle.layout.specs.Encode.{encode, decode, decodeBy, processWords, processAt}
+use Rattle.layout.specs.Sound.{Sound}
+use Rattle.layout.proofs.Encode.{process-back}
+use Rattle.layout.proofs.Sound.{process-row, process-written}
+use Rattle.stretch.specs.Stretch.{Stretch}
+use Rattle.stretch.proofs.Words.{stretch-of}
+
+module _ {ws : List ℕ} (s : Sound ws) (p k a e : ℕ) (l : p < word ws 0) (ek : k ≡ word ws 1) (ea : a ≡ 9 + p * (28 + 3 * word ws 1))
+    (ee : e ≡ a + (28 + 3 * k)) where
+  x : Process
+  x = processOf (decode ws) p
+
+  fits : ProcessFits (decode ws .params) (decode ws .clock) x
+  unfolding x decodeBy
+  fits = process-fits (s .domain) p l
+
+  width : length (x .hazards) ≡ k
+  unfolding x decodeBy
+  width = fits .stores .width ∙ sym ek
+
+  room : length (x .buffer) ≤ 8
+  unfolding x
+  room = fits .stores .room
+
+  start : a ≡ 9 + p * (28 + 3 * k)
+  start = rw ek ea
+
+  row : take (e - a) (drop a ws) ≡ processWords x
+  unfolding x
+  row = process-row s p k a (e - a) l ek start (omega arith)
+
+  -- what is lent is a stretch, and holds the process
+  pub lent-process : processAt k (take (e - a) (drop a ws)) ≡ processOf (decode ws) p
+  unfolding x
+  lent-process = ap (λ (r : List ℕ). processAt k r) row ∙ process-back shape (processOf (decode ws) p) k width room
+
+  pub lent-stretch : Stretch k (take (e - a) (drop a ws))
+  unfolding x decodeBy
+  lent-stretch =
+      rw row (stretch-of (processOf (decode ws) p) k width room (omega (arith, ek, s .sizes .hazards))
+      (rw ek (all-map (PendingFits (decode ws .params) (decode ws .clock)) (λ e. e .hazard < word ws 1) (processOf (decode ws) p .buffer)
+      (λ _ f. f .hazard) (fits .stores .buffer))))
+
+  -- the process that comes back is the domain's
+  pub process-returned : (f : Process → Process) (r : List ℕ) → r ≡ processWords (f (processAt k (take (e - a) (drop a ws))))
+      → putMid a (e - a) ws r ≡ encode (setProcess (decode ws) p (f (processOf (decode ws) p)))
+  process-returned f r q =
+      ap (λ (y : List ℕ). putMid a (e - a) ws y) (q ∙ ap (λ (y : Process). processWords (f y)) lent-process)
+      ∙ process-written s p k a (e - a) l ek start (omega arith) (f (processOf (decode ws) p))
