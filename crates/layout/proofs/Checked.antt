@@ -12,7 +12,7 @@ use Rattle.lists.proofs.Facts as F
 use Rattle.lists.proofs.Upto.{all-at, all-yes, all-of}
 use Rattle.lists.proofs.Rows.{length-unrows, unrows-at, below}
 use Rattle.model.specs.Params.{Between, InRange, lastClock, wordCount}
-use Rattle.model.specs.State.{Domain, noProcess, freeNode, processOf, nodeOf}
+use Rattle.model.specs.State.{Process, Node, Domain, noProcess, freeNode, processOf, nodeOf}
 use Rattle.model.specs.WellFormed.{NodeFits, ProcessFits, WellFormed}
 use Rattle.layout.specs.Shape.{word, headAt, nodeAt, processStart, nodesStart}
 use Rattle.layout.specs.Codecs.{shape}
@@ -106,10 +106,6 @@ module _ (ws : List ℕ) where
   abbrev rowOf : ℕ → List ℕ
   rowOf p = take (28 + 3 * word ws 1) (drop (processStart shape (word ws 1) p) ws)
 
-  inside : (p : ℕ) → p < word ws 0 → length ws ≡ wordCount (headAt ws .params)
-      → processStart shape (word ws 1) p + (28 + 3 * word ws 1) ≤ length ws
-  inside p h e = omega (arith, below p (word ws 0) (28 + 3 * word ws 1) h)
-
   -- a decoded process and node, by their places
   process-is : (p : ℕ) → p < word ws 0 → processOf (decode ws) p ≡ processAt (word ws 1) (rowOf p)
   unfolding decodeBy
@@ -124,7 +120,9 @@ module _ (ws : List ℕ) where
     process-at : (p : ℕ) → p < word ws 0
         → ProcessFits (headAt ws .params) (word ws 6) (processAt (word ws 1) (rowOf p)) × RowFits shape (word ws 1) (rowOf p)
     process-at p h =
-        process-facts (headAt ws .params) (word ws 6) ws (processStart shape (word ws 1) p) (inside p h (t .long))
+        let i : processStart shape (word ws 1) p + (28 + 3 * word ws 1) ≤ length ws =
+        omega (arith, t .long, below p (word ws 0) (28 + 3 * word ws 1) h) in
+        process-facts (headAt ws .params) (word ws 6) ws (processStart shape (word ws 1) p) i
         (all-at processTest (word ws 0) p (t .processes) h)
 
     node-at : (c : ℕ) → c < word ws 2 → NodeFits (headAt ws .params) (word ws 6) (nodeFrom ws (nodesAt + 5 * c))
@@ -134,7 +132,8 @@ module _ (ws : List ℕ) where
     unfolding decodeBy
     well =
         let d : Domain = decode ws in
-        let n : length (d .processes) ≡ word ws 0 = length-unrows (processAt (word ws 1)) (28 + 3 * word ws 1) noProcess (word ws 0) (drop 9 ws) in
+        let n : length (d .processes) ≡ word ws 0 =
+        length-unrows (processAt (word ws 1)) (28 + 3 * word ws 1) noProcess (word ws 0) (drop 9 ws) in
         let m : length (d .nodes) ≡ word ws 2 = length-unrows nodeAt 5 freeNode (word ws 2) (drop nodesAt ws) in
         record {
           params = t .head .params;
@@ -169,19 +168,20 @@ module _ {ws : List ℕ} (s : Sound ws) where
   process-passes : (p : ℕ) → p < word ws 0 → processTest ws p ≡ true
   unfolding decodeBy
   process-passes p h =
+      let Fits : Process → Type 0 = ProcessFits (headAt ws .params) (word ws 6) in
       let a : ℕ = processStart shape (word ws 1) p in
-      let f : ProcessFits (headAt ws .params) (word ws 6) (processOf (decode ws) p) =
-          F.all-at (ProcessFits (headAt ws .params) (word ws 6)) (decode ws .processes) p noProcess (s .domain .processes) (omega (arith, s .domain .processCount)) in
-      let w : rowOf ws p ≡ processWords (processOf (decode ws) p) = process-row s p (word ws 1) (processStart shape (word ws 1) p) (28 + 3 * word ws 1) h refl refl refl in
-      process-test (headAt ws .params) (word ws 6) ws (processStart shape (word ws 1) p) (inside ws p h (s .sizes .long))
-      (rw (process-is ws p h) at f)
-      (rw (process-is ws p h) at w)
+      let f : Fits (processOf (decode ws) p) =
+      F.all-at Fits (decode ws .processes) p noProcess (s .domain .processes) (omega (arith, s .domain .processCount)) in
+      let w : rowOf ws p ≡ processWords (processOf (decode ws) p) =
+      process-row s p (word ws 1) a (28 + 3 * word ws 1) h refl refl refl in
+      process-test (headAt ws .params) (word ws 6) ws a (rw (process-is ws p h) at f) (rw (process-is ws p h) at w)
 
   node-passes : (c : ℕ) → c < word ws 2 → nodeTest ws c ≡ true
   unfolding decodeBy
   node-passes c h =
-      let f : NodeFits (headAt ws .params) (word ws 6) (nodeOf (decode ws) c) =
-          F.all-at (NodeFits (headAt ws .params) (word ws 6)) (decode ws .nodes) c freeNode (s .domain .nodes) (omega (arith, s .domain .nodeCount)) in
+      let Fits : Node → Type 0 = NodeFits (headAt ws .params) (word ws 6) in
+      let f : Fits (nodeOf (decode ws) c) =
+      F.all-at Fits (decode ws .nodes) c freeNode (s .domain .nodes) (omega (arith, s .domain .nodeCount)) in
       node-test (headAt ws .params) ws (nodesAt ws + 5 * c) (word ws 6) (rw (node-is ws c h) at f)
 
   head-fits : HeadFits ws

@@ -57,9 +57,9 @@ module _ (p : Params) (ws : List ℕ) (a : ℕ) where
         let e₄ = both (implies (eqb (word ws a) Free || eqb (word ws a) Reachable) (eqb (word ws (a + 1)) 0)) _ (e₃ .1) in
         let e₅ = both (implies (not (eqb (word ws a) Retired)) (eqb (word ws (a + 3)) 0 && eqb (word ws (a + 4)) 0)) _ (e₄ .1) in
         let owner : (eqb (word ws a) Free || eqb (word ws a) Reachable) ≡ true → word ws (a + 1) ≡ 0 =
-            λ h. eqb-true _ _ (implied (eqb (word ws a) Free || eqb (word ws a) Reachable) _ (e₄ .0) h) in
+        λ h. eqb-true _ _ (implied (eqb (word ws a) Free || eqb (word ws a) Reachable) _ (e₄ .0) h) in
         let late : word ws a ≢ Retired → (eqb (word ws (a + 3)) 0 && eqb (word ws (a + 4)) 0) ≡ true =
-            λ h. implied (not (eqb (word ws a) Retired)) _ (e₅ .0) (ap not (ne-eqb _ _ h)) in
+        λ h. implied (not (eqb (word ws a) Retired)) _ (e₅ .0) (ap not (ne-eqb _ _ h)) in
         record {
           state = leb-true _ _ (e₀ .0);
           owner = ltb-true _ _ (e₁ .0);
@@ -74,7 +74,7 @@ module _ (p : Params) (ws : List ℕ) (a : ℕ) where
     unfolding nodeFits
     node-test f =
         let owner : (eqb (word ws a) Free || eqb (word ws a) Reachable) ≡ true → eqb (word ws (a + 1)) 0 ≡ true =
-            λ h. eq-eqb _ _ (either _ _ h (λ e. f .free (eqb-true _ _ e) .0) (λ e. f .reachable (eqb-true _ _ e))) in
+        λ h. eq-eqb _ _ (either _ _ h (λ e. f .free (eqb-true _ _ e) .0) (λ e. f .reachable (eqb-true _ _ e))) in
         pass (le-leb _ _ (f .state))
         (pass (lt-ltb _ _ (f .owner))
         (pass (le-leb _ _ (f .retiredAt))
@@ -89,7 +89,7 @@ module _ (p : Params) (ws : List ℕ) (a : ℕ) where
       unfolding storeFits
       store-facts l q =
           let t : (ltb (word ws a) (p .hazards) && (leb (word ws (a + 1)) (p .nodes) && leb (word ws (a + 2)) clock)) ≡ true =
-              rw (lt-ltb e stores l) at q in
+          rw (lt-ltb e stores l) at q in
           let t₀ = both (ltb (word ws a) (p .hazards)) _ t in
           let t₁ = both (leb (word ws (a + 1)) (p .nodes)) _ (t₀ .1) in
           record { hazard = ltb-true _ _ (t₀ .0); node = leb-true _ _ (t₁ .0); time = leb-true _ _ (t₁ .1) }

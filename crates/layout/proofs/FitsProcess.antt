@@ -31,7 +31,7 @@ below-three (suc zero) h f g k = g refl
 below-three (suc (suc zero)) h f g k = k refl
 below-three (suc (suc (suc m))) h f g k = absurd (omega arith)
 
-module _ (p : Params) (clock : ℕ) (ws : List ℕ) (a : ℕ) (inside : a + (28 + 3 * p .hazards) ≤ length ws) where
+module _ (p : Params) (clock : ℕ) (ws : List ℕ) (a : ℕ) where
   abbrev row : List ℕ
   row = take (28 + 3 * p .hazards) (drop a ws)
 
@@ -48,20 +48,21 @@ module _ (p : Params) (clock : ℕ) (ws : List ℕ) (a : ℕ) (inside : a + (28 
   row-word j b h e = part-word ws (28 + 3 * p .hazards) a j b h e
 
   -- the words past the pending stores are 0
-  row-rest : ((e : ℕ) → e < 8 → storeTest e ≡ true) → (j : ℕ) → word row 3 * 3 ≤ j → j < 24 → word row (4 + p .hazards * 3 + j) ≡ 0
+  row-rest : ((e : ℕ) → e < 8 → storeTest e ≡ true) → (j : ℕ) → word row 3 * 3 ≤ j → j < 24
+      → word row (4 + p .hazards * 3 + j) ≡ 0
   row-rest t j h l =
       let n : word row 3 ≡ word ws (a + 3) = row-word 3 (a + 3) (omega arith) refl in
-      let e : ℕ = j / 3 in
       let z = store-zeros p ws (storesAt + 3 * (j / 3)) clock (word ws (a + 3)) (j / 3) (omega arith) (t (j / 3) (omega arith)) in
       let at : (b : ℕ) → b ≡ storesAt + j → word row (4 + p .hazards * 3 + j) ≡ word ws b =
-          λ b e. row-word (4 + p .hazards * 3 + j) b (omega arith) (omega arith) in
+      λ b e. row-word (4 + p .hazards * 3 + j) b (omega arith) (omega arith) in
       below-three (j % 3) (omega arith)
       (λ m. at (storesAt + 3 * (j / 3)) (omega arith) ∙ z .0)
       (λ m. at (storesAt + 3 * (j / 3) + 1) (omega arith) ∙ z .1)
       (λ m. at (storesAt + 3 * (j / 3) + 2) (omega arith) ∙ z .2)
 
-  row-fits : word ws (a + 3) ≤ 8 → ((e : ℕ) → e < 8 → storeTest e ≡ true) → RowFits shape (p .hazards) row
-  row-fits l t =
+  row-fits : a + (28 + 3 * p .hazards) ≤ length ws → word ws (a + 3) ≤ 8 → ((e : ℕ) → e < 8 → storeTest e ≡ true)
+      → RowFits shape (p .hazards) row
+  row-fits i l t =
       record {
         long = simp (length-take, length-drop) (omega arith);
         room = rw (row-word 3 (a + 3) (omega arith) refl) l;
@@ -87,26 +88,27 @@ module _ (p : Params) (clock : ℕ) (ws : List ℕ) (a : ℕ) (inside : a + (28 
             (λ h l. rw (hazard-place ws k a h (omega arith)) (hazard-facts p ws (a + 4 + 3 * h) (u h (omega arith))));
       }
 
-  pub process-facts : processFits (p .hazards) (p .nodes) (p .quiescenceThreshold) clock ws a ≡ true
+  pub process-facts : a + (28 + 3 * p .hazards) ≤ length ws → processFits (p .hazards) (p .nodes) (p .quiescenceThreshold) clock ws a ≡ true
       → ProcessFits p clock (processAt (p .hazards) row) × RowFits shape (p .hazards) row
   unfolding processFits processBy
-  process-facts e =
+  process-facts i e =
       let e₀ = both (leb (word ws a) 2) _ e in
       let e₁ = both (ltb (word ws (a + 1)) (p .quiescenceThreshold)) _ (e₀ .1) in
       let e₂ = both (leb (word ws (a + 2)) 1) _ (e₁ .1) in
       let e₃ = both (leb (word ws (a + 3)) bufferSize) _ (e₂ .1) in
       let e₄ = both (allUpto hazardTest (p .hazards)) _ (e₃ .1) in
-      let n : word row 3 ≡ word ws (a + 3) = row-word 3 (a + 3) (omega arith) refl in
       let few : word ws (a + 3) ≤ 8 = leb-true _ _ (e₃ .0) in
-      let t : (e : ℕ) → e < 8 → storeTest e ≡ true = λ e l. all-at storeTest 8 e (e₄ .1) l in
-      (record {
-        words = record {
-          epoch = rw (row-word 0 a (omega arith) (omega arith)) (leb-true _ _ (e₀ .0));
-          calls = rw (row-word 1 (a + 1) (omega arith) refl) (ltb-true _ _ (e₁ .0));
-          presence = rw (row-word 2 (a + 2) (omega arith) refl) (leb-true _ _ (e₂ .0));
-        };
-        stores = stores-fit few t (λ h l. all-at hazardTest (p .hazards) h (e₄ .0) l);
-      }, row-fits few t)
+      let t : (e : ℕ) → e < 8 → storeTest e ≡ true = λ e l. all-at storeTest 8 e (e₄ .1) l in (
+        record {
+          words = record {
+            epoch = rw (row-word 0 a (omega arith) (omega arith)) (leb-true _ _ (e₀ .0));
+            calls = rw (row-word 1 (a + 1) (omega arith) refl) (ltb-true _ _ (e₁ .0));
+            presence = rw (row-word 2 (a + 2) (omega arith) refl) (leb-true _ _ (e₂ .0));
+          };
+          stores = stores-fit few t (λ h l. all-at hazardTest (p .hazards) h (e₄ .0) l);
+        },
+        row-fits i few t,
+      )
 
   -- and back, of a row that is its process's words
   module _ (f : ProcessFits p clock (processAt (p .hazards) row)) (w : row ≡ processWords (processAt (p .hazards) row)) where
@@ -118,9 +120,8 @@ module _ (p : Params) (clock : ℕ) (ws : List ℕ) (a : ℕ) (inside : a + (28 
     past : (e i b : ℕ) → e < 8 → i < 3 → word ws (a + 3) ≤ e → b ≡ storesAt + 3 * e + i → word ws b ≡ 0
     past e i b l h q j =
         let o = f .stores in
-        let n : ℕ = 4 + p .hazards * 3 + (3 * e + i) in
         sym (row-word (4 + p .hazards * 3 + (3 * e + i)) b (omega arith) (omega arith))
-        ∙ (ap (λ (r : List ℕ). word r n) w
+        ∙ (ap (λ (r : List ℕ). word r (4 + p .hazards * 3 + (3 * e + i))) w
         ∙ past-stores shape (processAt (p .hazards) row) (p .hazards) (o .width) (o .room) (3 * e + i) (omega (arith, count)))
 
     pending : (e : ℕ) → e < word ws (a + 3) → PendingFits p clock (pendingFrom ws (storesAt + 3 * e))

@@ -5,3 +5,4 @@ pub mod Places
 pub mod Fits
 pub mod FitsProcess
 pub mod Checked
+pub mod Fresh

@@ -4,8 +4,9 @@ use Prim.Native.Nat.{ℕ, zero, suc, _+_, _*_, _≤_, _<_}
 use mathlib.Core.List.{List, [], _∷_, _++_, append-assoc}
 use mathlib.Core.Path.{_≡_, refl, ap, sym, _∙_}
 use native.Mathlib.Omega.{arith}
-use native.Mathlib.Nat.{zero-mul, suc-mul, zero-add, suc-add, add-suc, mul-le-mul-right, not-suc-le-zero}
-use lib.ListN.{length, take, drop, getD, set, length-append, length-take, length-drop, List·getD-append}
+use native.Mathlib.Nat.{zero-mul, suc-mul, zero-add, suc-add, mul-le-mul-right, not-suc-le-zero}
+use lib.ListN.{length, take, drop, getD, set, replicate, replicate-append-replicate, length-append, length-take}
+use lib.ListN.{length-drop, List·getD-append}
 use lib.Seq.{length-take-le, take-append-le, take-append-add, drop-append-add, getD-append-add, set-append-left}
 use lib.Seq.{drop-append-le, take-at, drop-at, drop-drop, take-take, take-nil, take-add, sets, sets-eq}
 use Rattle.lists.specs.Rows.{rows, unrows, Codec}
@@ -17,11 +18,6 @@ Wide put w x₀ xs = (i : ℕ) → i < length xs → length (put (getD xs i x₀
 pub set-append-add : (xs ys : List ℕ) (n a : ℕ) → set (xs ++ ys) (length xs + n) a ≡ xs ++ set ys n a
 set-append-add [] ys n a = rw zero-add
 set-append-add (x ∷ xs) ys n a = simp suc-add (ap (λ (l : List ℕ). x ∷ l) (set-append-add xs ys n a))
-
-pub sets-append-add : (vs xs ys : List ℕ) (n : ℕ) → sets (xs ++ ys) (length xs + n) vs ≡ xs ++ sets ys n vs
-sets-append-add [] xs ys n = refl
-sets-append-add (v ∷ vs) xs ys n =
-    rw (set-append-add xs ys n v, ← add-suc (length xs) n) (sets-append-add vs xs (set ys n v) (suc n))
 
 -- row i ends within n rows
 pub below : (i n w : ℕ) → i < n → i * w + w ≤ n * w
@@ -86,6 +82,13 @@ module _ {X : Type 0} (put : X → List ℕ) (w : ℕ) (x₀ : X) where
   rows-sets xs i y h l e =
       let k : i * w + length (put y) ≤ length (rows put xs) = omega (arith, length-rows xs h, below i (length xs) w l) in
       sets-eq (put y) (rows put xs) (i * w) k ∙ rw (e, append-assoc) (rows-splice xs i y h l)
+
+-- rows of zeros
+pub rows-zeros : {X : Type 0} (put : X → List ℕ) (w n : ℕ) (x : X) → put x ≡ replicate w 0 → rows put (replicate n x) ≡ replicate (n * w) 0
+rows-zeros put w zero x e = rw zero-mul
+rows-zeros put w (suc n) x e =
+    let k : suc n * w ≡ w + n * w = omega (arith, suc-mul n w) in
+    rw (k, e, rows-zeros put w n x e) (replicate-append-replicate w (n * w) 0)
 
 -- ---- rows read off a list
 
