@@ -1,5 +1,11 @@
 // A domain's words by its parts: every call speaks of the domain that the words hold, and no caller knows an address.
-use layout::{Hazard, HazardId, Lead, Node, NodeId, Params, ProcessId};
+use layout::Hazard;
+use layout::HazardId;
+use layout::Lead;
+use layout::Node;
+use layout::NodeId;
+use layout::Params;
+use layout::ProcessId;
 ghost use mathlib.Core.Path.{_≡_};
 ghost use Prim.Native.Nat.{_+_, _*_, _≤_, _<_};
 ghost use lib.ListN.{length};

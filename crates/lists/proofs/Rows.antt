@@ -4,7 +4,7 @@ use Prim.Native.Nat.{ℕ, zero, suc, _+_, _*_, _≤_, _<_}
 use mathlib.Core.List.{List, [], _∷_, _++_, append-assoc}
 use mathlib.Core.Path.{_≡_, refl, ap, sym, _∙_}
 use native.Mathlib.Omega.{arith}
-use native.Mathlib.Nat.{zero-mul, suc-mul, zero-add, suc-add, mul-le-mul-right, not-suc-le-zero}
+use native.Mathlib.Nat.{zero-mul, suc-mul, zero-add, suc-add, add-suc, mul-le-mul-right, not-suc-le-zero}
 use lib.ListN.{length, take, drop, getD, set, replicate, replicate-append-replicate, length-append, length-take}
 use lib.ListN.{length-drop, List·getD-append}
 use lib.Seq.{length-take-le, take-append-le, take-append-add, drop-append-add, getD-append-add, set-append-left}
@@ -26,6 +26,12 @@ below i n w h = omega (arith, mul-le-mul-right w h, suc-mul i w)
 -- a place one row further
 further : (i w j v : ℕ) → v ≡ w → suc i * w + j ≡ v + (i * w + j)
 further i w j v e = omega (arith, suc-mul i w)
+
+-- numbers written one after the other past a front
+pub sets-append-add : (vs xs ys : List ℕ) (n : ℕ) → sets (xs ++ ys) (length xs + n) vs ≡ xs ++ sets ys n vs
+sets-append-add [] xs ys n = refl
+sets-append-add (v ∷ vs) xs ys n =
+    rw (set-append-add xs ys n v, ← add-suc (length xs) n) (sets-append-add vs xs (set ys n v) (suc n))
 
 module _ {X : Type 0} (put : X → List ℕ) (w : ℕ) (x₀ : X) where
   others : (x : X) (xs : List X) → Wide put w x₀ (x ∷ xs) → Wide put w x₀ xs

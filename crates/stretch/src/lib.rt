@@ -1,5 +1,7 @@
 // A process's own stretch of the words, lent as a slice of exactly its 28 + 3K words: its lead, its hazards and its store buffer.
-use layout::{Hazard, HazardId, Lead};
+use layout::Hazard;
+use layout::HazardId;
+use layout::Lead;
 ghost use mathlib.Core.Path.{_≡_};
 ghost use mathlib.Core.Logic.{_≢_};
 ghost use mathlib.Core.List.{[], _∷_, _++_};

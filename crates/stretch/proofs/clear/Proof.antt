@@ -39,10 +39,11 @@ loop-less c = search needs
 
 -- src/lib.rt:118:5
 loop-again : tie.Need-loop-again Inv-loop μ-loop
-loop-again c = 
-    (omega arith,
-    simp length-set (omega arith),
-    rw (c .before .loop .inv .2) (fill-more (c .before .loop .i) 0 (c .before .before .args .words .now) (omega arith)))
+loop-again c = (
+  omega arith,
+  simp length-set (omega arith),
+  rw (c .before .loop .inv .2) (fill-more (c .before .loop .i) 0 (c .before .before .args .words .now) (omega arith)),
+)
 
 -- src/lib.rt:114:1
 same-length : tie.Need-same-length Inv-loop μ-loop
@@ -50,7 +51,7 @@ same-length c = search needs
 
 -- src/lib.rt:114:1
 returns : tie.Need-returns Inv-loop μ-loop
-returns c = 
+returns c =
     let e : c .before .loop .i ≡ length (c .before .before .args .words .now) = omega arith in
     rw (c .before .loop .inv .2, e, drop-length, append-nil)
 

@@ -60,7 +60,7 @@ same-length c = c .before .row2 .given .1 ∙ simp length-set (omega arith)
 
 -- src/lib.rt:104:1
 returns : tie.Need-returns
-returns c = 
+returns c =
     drains _ _ (c .before .before .before .before .before .before .before .before .before .before .pre .0) _ _ _ (c .before .before .before .before .before .before .before .before .before .before .pre .1) (c .before .before .before .before .before .before .commit .ensures) refl (c .before .before .shift .ensures)
 
 pub drain-spec : {M : Type 1} → statement M

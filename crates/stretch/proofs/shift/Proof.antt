@@ -70,7 +70,7 @@ same-length c = simp length-set (omega arith)
 
 -- src/lib.rt:89:1
 returns : tie.Need-returns Inv-loop μ-loop
-returns c = 
+returns c =
     let e : c .before .loop .j ≡ 21 = omega arith in
     rw (c .before .loop .inv .2, e) (moved-end 3 21 _ (0 ∷ 0 ∷ 0 ∷ []) (c .before .before .pre) refl)
 

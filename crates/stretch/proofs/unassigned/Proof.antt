@@ -56,11 +56,12 @@ loop-less c = search needs
 
 -- src/lib.rt:172:5
 loop-again : tie.Need-loop-again Inv-loop μ-loop
-loop-again c = 
-    (omega arith,
-    tested-more emptyHazard (c .before .before .loop .inv .1)
-    (omega (arith, hazards-length (c .before .before .before .args .k) (c .before .before .before .args .row .now)))
-    (ap (λ (n : ℕ). eqb n 0) (sym (hazard-word _ _ _ 1 _ (omega arith) (omega arith) (omega arith) refl))))
+loop-again c = (
+  omega arith,
+  tested-more emptyHazard (c .before .before .loop .inv .1)
+      (omega (arith, hazards-length (c .before .before .before .args .k) (c .before .before .before .args .row .now)))
+      (ap (λ (n : ℕ). eqb n 0) (sym (hazard-word _ _ _ 1 _ (omega arith) (omega arith) (omega arith) refl))),
+)
 
 -- src/lib.rt:166:1
 returns : tie.Need-returns Inv-loop μ-loop

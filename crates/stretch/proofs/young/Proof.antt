@@ -50,7 +50,7 @@ loop-less c = search needs
 
 -- src/lib.rt:158:5
 loop-again : tie.Need-loop-again Inv-loop μ-loop
-loop-again c = 
+loop-again c =
     (omega arith, tested-more noStore (c .before .before .loop .inv .1) (omega arith) (c .young-store .ensures))
 
 -- src/lib.rt:151:1
