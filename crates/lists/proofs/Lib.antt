@@ -6,3 +6,4 @@ pub mod Sweeps
 pub mod Pigeonhole
 pub mod Rows
 pub mod Turns
+pub mod Compares

@@ -1,7 +1,7 @@
 -- A loop that frees the nodes that pass a test, and counts them: what holds at its head, where it starts, after a turn and where it ends;
 -- and the test of a node that is due. Assumes nothing.
-use Prim.Native.Nat.{ℕ, _+_, _≤_, _<_}
-use mathlib.Core.Bool.{Bool, false, not, _&&_, cond}
+use Prim.Native.Nat.{ℕ, _+_, _-_, _≤_, _<_}
+use mathlib.Core.Bool.{Bool, cond}
 use mathlib.Core.List.{List, append-nil}
 use mathlib.Core.Path.{_≡_, refl, ap, sym, _∙_}
 use native.Mathlib.Omega.{arith}
@@ -9,14 +9,13 @@ use native.Mathlib.Nat.{zero-add}
 use native.Mathlib.Numerals.{add-one}
 use lib.ListN.{length, getD, set, take, length-set, drop-of-length-le}
 use lib.Seq.{take-all}
-use lib.Dec.{ltb}
 use Rattle.lists.specs.Tests.{countFrom}
 use Rattle.lists.specs.Rows.{rows}
-use Rattle.lists.proofs.Turns.{one-most, count-from-turn, sweptTo, swept-length, swept-at, swept-turn, ltb-sub}
+use Rattle.lists.proofs.Turns.{one-most, count-from-turn, sweptTo, swept-length, swept-at, swept-turn}
+use Rattle.lists.proofs.Compares.{ltb-swap}
 use Rattle.model.specs.State.{Node, freeNode}
-use Rattle.model.specs.Retire.{retiredBy}
 use Rattle.layout.specs.Shape.{nodeWords}
-use Rattle.nodes.specs.Nodes.{nodesIn, nodeIn, Part, dueUnmarked, Freed, Swept}
+use Rattle.nodes.specs.Nodes.{nodesIn, nodeIn, Part, dueUnmarked, retiredBefore, Freed, Swept}
 use Rattle.nodes.proofs.Part.{nodes-length, nodes-back, part-rows, part-words}
 
 -- the words r₀ are r now: the first i nodes are swept
@@ -74,7 +73,6 @@ module _ {f : ℕ → Node → Bool} {m : ℕ} {r₀ r : List ℕ} {freed i : �
       let q : length (nodesIn m r₀) ≤ i = rw many l in
       (h .words ∙ rw (take-all i (nodesIn m r₀) q, drop-of-length-le (nodesIn m r₀) q, append-nil), h .passed ∙ ap (countFrom f 0) (take-all i (nodesIn m r₀) q))
 
-pub due-test : (n : Node) (marks : List Bool) (p : ℕ) {clock delay c d s k j : ℕ} {b : Bool}
-    → b ≡ retiredBy p n → d ≡ delay → s ≡ n .retiredAt → k ≡ clock → j ≡ c
-    → (b && (ltb (d + s) k && not (getD marks (j + 1) false))) ≡ dueUnmarked p clock delay marks c n
-due-test n marks p eb ed es ek ej = rw (eb, ed, es, ek, ej, add-one, ltb-sub)
+pub due-is : (n : Node) (marks : List Bool) (p clock delay c : ℕ) {limit : ℕ} → limit ≡ clock - delay
+    → retiredBefore p limit marks c n ≡ dueUnmarked p clock delay marks c n
+due-is n marks p clock delay c e = rw (e, ltb-swap (n .retiredAt) delay clock)

@@ -40,6 +40,10 @@ inState v n = record { state = v; owner = n .owner; guest = n .guest; retiredAt 
 abbrev pub dueUnmarked : ℕ → ℕ → ℕ → List Bool → ℕ → Node → Bool
 dueUnmarked p clock delay marks c n = retiredBy p n && (ltb delay (clock - n .retiredAt) && not (getD marks (suc c) false))
 
+-- node c, Retired by p at a clock below the limit, with its mark not set
+abbrev pub retiredBefore : ℕ → ℕ → List Bool → ℕ → Node → Bool
+retiredBefore p limit marks c n = retiredBy p n && (ltb (n .retiredAt) limit && not (getD marks (suc c) false))
+
 -- Retired by p, in the limbo list of this epoch
 abbrev pub expiredIn : ℕ → ℕ → ℕ → Node → Bool
 expiredIn p epoch c n = retiredBy p n && eqb (n .limbo) epoch

@@ -5,14 +5,14 @@ use layout::NodeId;
 use layout::ProcessId;
 ghost use mathlib.Core.Path.{_≡_};
 ghost use mathlib.Core.Bool.{true, cond};
-ghost use Prim.Native.Nat.{_+_, _*_, _≤_, _<_};
+ghost use Prim.Native.Nat.{_+_, _*_, _-_, _≤_, _<_};
 ghost use lib.ListN.{set};
 ghost use lib.Dec.{eqb};
 ghost use Rattle.lists.specs.Tests.{count};
 ghost use Rattle.model.specs.State.{freeNode, Reachable};
 ghost use Rattle.model.specs.Retire.{retiredBy};
 ghost use Rattle.layout.specs.Values.{nodeValue};
-ghost use Rattle.nodes.specs.Nodes.{nodesIn, nodeIn, Part, withNode, inState, dueUnmarked, expiredIn, Freed, Swept};
+ghost use Rattle.nodes.specs.Nodes.{nodesIn, nodeIn, Part, withNode, inState, dueUnmarked, retiredBefore, expiredIn, Freed, Swept};
 
 // Where node c starts.
 fn offset(m: u32, c: NodeId) -> usize
@@ -88,13 +88,15 @@ pub fn reachable_count(nodes: &[u32], m: u32) -> u32
     found
 }
 
-// Is node c a Retired node of p?
+// Is node c a Retired node of p? State and owner are compared as one number.
 fn retired_by(nodes: &[u32], m: u32, c: NodeId, p: ProcessId) -> bool
     requires { ⌜ Part m (now nodes) × (c .0 < m) ⌝ }
     ensures { λ r. ⌜ r ≡ retiredBy (p .0) (nodeIn m (now (nodes .entry)) (c .0)) ⌝ }
 {
     let at = offset(m, c);
-    (state_of(nodes, m, c) == 4) & (nodes[at + 1] == p.0)
+    let state = layout::wide(state_of(nodes, m, c));
+    let owner = layout::wide(nodes[at + 1]);
+    state + owner * 4294967296 == 4 + layout::wide(p.0) * 4294967296
 }
 
 // How many Retired nodes p has.
@@ -119,15 +121,20 @@ pub fn mark(marks: &mut [bool; 257], v: u32)
     marks[layout::wide(v)] = true;
 }
 
-// Is node c due: Retired by p more than `delay` before `clock`, its mark not set?
-fn due(nodes: &[u32], m: u32, c: NodeId, p: ProcessId, clock: u32, delay: u32, marks: &[bool; 257]) -> bool
+// The clock below which a node must have been retired to be aged.
+fn aged_before(clock: u32, delay: u32) -> u32
+    ensures { λ r. ⌜ r ≡ clock - delay ⌝ }
+{
+    if delay < clock { clock - delay } else { 0 }
+}
+
+// Is node c due: Retired by p at a clock below the limit, its mark not set?
+fn due(nodes: &[u32], m: u32, c: NodeId, p: ProcessId, limit: u32, marks: &[bool; 257]) -> bool
     requires { ⌜ Part m (now nodes) × (c .0 < m) ⌝ }
-    ensures { λ r. ⌜ r ≡ dueUnmarked (p .0) clock delay (now (marks .entry)) (c .0) (nodeIn m (now (nodes .entry)) (c .0)) ⌝ }
+    ensures { λ r. ⌜ r ≡ retiredBefore (p .0) limit (now (marks .entry)) (c .0) (nodeIn m (now (nodes .entry)) (c .0)) ⌝ }
 {
     let at = offset(m, c);
-    let retired = layout::wide(nodes[at + 3]);
-    let aged = layout::wide(delay) + retired < layout::wide(clock);
-    retired_by(nodes, m, c, p) & (aged & !marks[layout::wide(c.0) + 1])
+    retired_by(nodes, m, c, p) & ((nodes[at + 3] < limit) & !marks[layout::wide(c.0) + 1])
 }
 
 // Is node c a Retired node of p in the limbo list of `epoch`?
@@ -157,10 +164,11 @@ pub fn sweep_due(nodes: &mut [u32], m: u32, p: ProcessId, clock: u32, delay: u32
     requires { ⌜ Part m (now nodes) ⌝ }
     ensures { λ r. ⌜ Swept (dueUnmarked (p .0) clock delay (now (marks .entry))) m (now (nodes .entry)) (now (nodes .exit)) r ⌝ }
 {
+    let limit = aged_before(clock, delay);
     let mut freed: u32 = 0;
     let mut i: u32 = 0;
     while i < m {
-        let passed = due(nodes, m, NodeId(i), p, clock, delay, marks);
+        let passed = due(nodes, m, NodeId(i), p, limit, marks);
         freed += free_if(nodes, m, NodeId(i), passed);
         i += 1;
     }
