@@ -14,22 +14,22 @@ ltb-swap s t c = by (ltb t (c - s)) refl
     by true e = lt-ltb s (c - t) (omega (arith, ltb-true t (c - s) e))
     by false e = le-ltb s (c - t) (omega (arith, ltb-false t (c - s) e))
 
--- two numbers of a word each, compared as one of two words
-pub eqb-pair : (a b c d : ℕ) → a < 4294967296 → c < 4294967296
-    → eqb (a + b * 4294967296) (c + d * 4294967296) ≡ (eqb a c && eqb b d)
-eqb-pair a b c d h k = by (eqb a c) (eqb b d) refl refl
+-- x and y are two words each: compared at once, compared word by word
+pub eqb-pair : {x y : ℕ} (a b c d : ℕ) → x ≡ a + b * 4294967296 → y ≡ c + d * 4294967296 → a < 4294967296 → c < 4294967296
+    → eqb x y ≡ (eqb a c && eqb b d)
+eqb-pair {x} {y} a b c d u v h k = by (eqb a c) (eqb b d) refl refl
   where
-    low : a + b * 4294967296 ≡ c + d * 4294967296 → a ≡ c
+    low : x ≡ y → a ≡ c
     low q = omega arith
 
-    high : a + b * 4294967296 ≡ c + d * 4294967296 → b ≡ d
+    high : x ≡ y → b ≡ d
     high q = omega arith
 
-    same : a ≡ c → b ≡ d → a + b * 4294967296 ≡ c + d * 4294967296
+    same : a ≡ c → b ≡ d → x ≡ y
     same p q = omega arith
 
-    by : (x y : Bool) → eqb a c ≡ x → eqb b d ≡ y → eqb (a + b * 4294967296) (c + d * 4294967296) ≡ (x && y)
-    by true true e f = eq-eqb _ _ (same (eqb-true a c e) (eqb-true b d f))
-    by true false e f = ne-eqb _ _ (λ q. eqb-false b d f (high q))
-    by false true e f = ne-eqb _ _ (λ q. eqb-false a c e (low q))
-    by false false e f = ne-eqb _ _ (λ q. eqb-false a c e (low q))
+    by : (i j : Bool) → eqb a c ≡ i → eqb b d ≡ j → eqb x y ≡ (i && j)
+    by true true e f = eq-eqb x y (same (eqb-true a c e) (eqb-true b d f))
+    by true false e f = ne-eqb x y (λ q. eqb-false b d f (high q))
+    by false true e f = ne-eqb x y (λ q. eqb-false a c e (low q))
+    by false false e f = ne-eqb x y (λ q. eqb-false a c e (low q))

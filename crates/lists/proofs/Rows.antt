@@ -5,7 +5,8 @@ use Prim.Native.Nat.{ℕ, zero, suc, _+_, _*_, _≤_, _<_}
 use native.Mathlib.Omega.{arith}
 use native.Mathlib.Nat.{zero-mul, suc-mul, zero-add, suc-add, mul-le-mul-right, not-suc-le-zero}
 use lib.ListN.{length, take, drop, getD, set, length-append, List·getD-append}
-use lib.Seq.{take-append-add, drop-append-add, getD-append-add, set-append-left, take-at, drop-at, drop-drop, take-add, sets, sets-eq}
+use lib.Seq.{take-append-add, drop-append-add, getD-append-add, set-append-left, take-at, drop-at, drop-drop}
+use lib.Seq.{take-add, sets, sets-eq}
 use Rattle.lists.specs.Rows.{rows, unrows}
 
 -- each row is w words wide

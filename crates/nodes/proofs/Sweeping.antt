@@ -3,7 +3,7 @@
 use Prim.Native.Nat.{ℕ, _+_, _-_, _≤_, _<_}
 use mathlib.Core.Bool.{Bool, cond}
 use mathlib.Core.List.{List, append-nil}
-use mathlib.Core.Path.{_≡_, refl, ap, sym, _∙_}
+use mathlib.Core.Path.{_≡_, refl, ap, _∙_}
 use native.Mathlib.Omega.{arith}
 use native.Mathlib.Nat.{zero-add}
 use native.Mathlib.Numerals.{add-one}
@@ -42,7 +42,7 @@ module _ {f : ℕ → Node → Bool} {m : ℕ} {r₀ r : List ℕ} {freed i : �
   node-now : nodeIn m r i ≡ nodeIn m r₀ i
   node-now = ap (λ (ns : List Node). getD ns i freeNode) now-nodes ∙ swept-at f freeNode 0 i (nodesIn m r₀) freeNode
 
-  module _ {b : Bool} {r′ : List ℕ} {v : ℕ} (l : i < m) (e : b ≡ f i (nodeIn m r i)) (u : Freed m r i b r′ v) where
+  module _ {b : Bool} {r′ : List ℕ} {freed′ : ℕ} (l : i < m) (e : b ≡ f i (nodeIn m r i)) (u : Freed m r i b freed r′ freed′) where
     inside : i < length (nodesIn m r₀)
     inside = rw many l
 
@@ -54,10 +54,10 @@ module _ {f : ℕ → Node → Bool} {m : ℕ} {r₀ r : List ℕ} {freed i : �
         (λ t. set (now-nodes t) i (cond (test t) freeNode (node-now t)))
         ∙ rw add-one (rw zero-add at (swept-turn f freeNode 0 (nodesIn m r₀) i freeNode inside))
 
-    passed-more : freed + v ≡ countFrom f 0 (take (i + 1) (nodesIn m r₀))
-    passed-more = rw (h .passed, u .1, test, add-one) (rw zero-add at (count-from-turn f 0 (nodesIn m r₀) i freeNode inside))
+    passed-more : freed′ ≡ countFrom f 0 (take (i + 1) (nodesIn m r₀))
+    passed-more = rw (u .1, h .passed, test, add-one) (rw zero-add at (count-from-turn f 0 (nodesIn m r₀) i freeNode inside))
 
-    pub turn : Sweeping f m r₀ r′ (freed + v) (i + 1)
+    pub turn : Sweeping f m r₀ r′ freed′ (i + 1)
     turn =
         record {
           part₀ = h .part₀;

@@ -9,10 +9,16 @@ ghost use Prim.Native.Nat.{_+_, _*_, _-_, _≤_, _<_};
 ghost use lib.ListN.{set};
 ghost use lib.Dec.{eqb};
 ghost use Rattle.lists.specs.Tests.{count};
-ghost use Rattle.model.specs.State.{freeNode, Reachable};
+ghost use Rattle.model.specs.State.{Reachable};
 ghost use Rattle.model.specs.Retire.{retiredBy};
 ghost use Rattle.layout.specs.Values.{nodeValue};
-ghost use Rattle.nodes.specs.Nodes.{nodesIn, nodeIn, Part, withNode, inState, dueUnmarked, retiredBefore, expiredIn, Freed, Swept};
+ghost use Rattle.nodes.specs.Nodes.{nodesIn, nodeIn, Part, withNode, inState};
+ghost use Rattle.nodes.specs.Nodes.{dueUnmarked, retiredBefore, expiredIn, Freed, Swept};
+
+// The states that are counted and swept.
+const REACHABLE: u32 = 2;
+
+const RETIRED: u32 = 4;
 
 // Where node c starts.
 fn offset(m: u32, c: NodeId) -> usize
@@ -82,21 +88,26 @@ pub fn reachable_count(nodes: &[u32], m: u32) -> u32
     let mut found: u32 = 0;
     let mut i: u32 = 0;
     while i < m {
-        found += one_if(state_of(nodes, m, NodeId(i)) == 2);
+        found += one_if(state_of(nodes, m, NodeId(i)) == REACHABLE);
         i += 1;
     }
     found
 }
 
-// Is node c a Retired node of p? State and owner are compared as one number.
+// Two words as one number.
+fn pair(low: u32, high: u32) -> usize
+    ensures { λ r. ⌜ (r ≡ low + high * 4294967296) × (low < 4294967296) ⌝ }
+{
+    layout::wide(low) + layout::wide(high) * 4294967296
+}
+
+// Is node c a Retired node of p? State and owner are compared at once.
 fn retired_by(nodes: &[u32], m: u32, c: NodeId, p: ProcessId) -> bool
     requires { ⌜ Part m (now nodes) × (c .0 < m) ⌝ }
     ensures { λ r. ⌜ r ≡ retiredBy (p .0) (nodeIn m (now (nodes .entry)) (c .0)) ⌝ }
 {
     let at = offset(m, c);
-    let state = layout::wide(state_of(nodes, m, c));
-    let owner = layout::wide(nodes[at + 1]);
-    state + owner * 4294967296 == 4 + layout::wide(p.0) * 4294967296
+    pair(state_of(nodes, m, c), nodes[at + 1]) == pair(RETIRED, p.0)
 }
 
 // How many Retired nodes p has.
@@ -146,21 +157,35 @@ fn expired(nodes: &[u32], m: u32, c: NodeId, p: ProcessId, epoch: u32) -> bool
     retired_by(nodes, m, c, p) & (nodes[at + 4] == epoch)
 }
 
-// Frees node c where the test is passed, and answers how many it freed.
-fn free_if(nodes: &mut [u32], m: u32, c: NodeId, passed: bool) -> u32
-    requires { ⌜ Part m (now nodes) × (c .0 < m) ⌝ }
-    ensures { λ r. ⌜ Freed m (now (nodes .entry)) (c .0) passed (now (nodes .exit)) r ⌝ }
+// Frees node c where the test is passed, and answers how many are freed with it.
+fn free_if(nodes: &mut [u32], m: u32, c: NodeId, passed: bool, freed: u32) -> u32
+    requires { ⌜ Part m (now nodes) × (c .0 < m) × (freed ≤ c .0) ⌝ }
+    ensures { λ r. ⌜ Freed m (now (nodes .entry)) (c .0) passed freed (now (nodes .exit)) r ⌝ }
 {
     if passed {
-        put(nodes, m, c, Node { state: 0, owner: 0, guest: 0, retired: 0, limbo: 0 });
-        1
+        let free = Node {
+            state: 0,
+            owner: 0,
+            guest: 0,
+            retired: 0,
+            limbo: 0,
+        };
+        put(nodes, m, c, free);
+        freed + 1
     } else {
-        0
+        freed
     }
 }
 
 // Frees each node of p that is due, and answers how many.
-pub fn sweep_due(nodes: &mut [u32], m: u32, p: ProcessId, clock: u32, delay: u32, marks: &[bool; 257]) -> u32
+pub fn sweep_due(
+    nodes: &mut [u32],
+    m: u32,
+    p: ProcessId,
+    clock: u32,
+    delay: u32,
+    marks: &[bool; 257],
+) -> u32
     requires { ⌜ Part m (now nodes) ⌝ }
     ensures { λ r. ⌜ Swept (dueUnmarked (p .0) clock delay (now (marks .entry))) m (now (nodes .entry)) (now (nodes .exit)) r ⌝ }
 {
@@ -169,7 +194,7 @@ pub fn sweep_due(nodes: &mut [u32], m: u32, p: ProcessId, clock: u32, delay: u32
     let mut i: u32 = 0;
     while i < m {
         let passed = due(nodes, m, NodeId(i), p, limit, marks);
-        freed += free_if(nodes, m, NodeId(i), passed);
+        freed = free_if(nodes, m, NodeId(i), passed, freed);
         i += 1;
     }
     freed
@@ -184,7 +209,7 @@ pub fn sweep_expired(nodes: &mut [u32], m: u32, p: ProcessId, epoch: u32) -> u32
     let mut i: u32 = 0;
     while i < m {
         let passed = expired(nodes, m, NodeId(i), p, epoch);
-        freed += free_if(nodes, m, NodeId(i), passed);
+        freed = free_if(nodes, m, NodeId(i), passed, freed);
         i += 1;
     }
     freed

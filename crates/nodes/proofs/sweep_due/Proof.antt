@@ -1,17 +1,11 @@
-use Rattle.lists.proofs.Turns.{one-most}
+-- `nodes::sweep_due` meets its contract. The loop has swept the first i nodes; the measure is the number of those left. Assumes nothing.
 use mathlib.Core.Path.{_≡_, _∙_}
-use Rattle.nodes.specs.Nodes.{dueUnmarked, nodeIn}
 use Prim.Native.Nat.{_-_}
-use Rattle.nodes.proofs.Sweeping.{Sweeping, starts, turn, ends, due-is}
-use native.Mathlib.Omega.{arith}
 use borrow.Author.Needs.{needs}
+use Rattle.nodes.specs.Nodes.{dueUnmarked, nodeIn}
+use Rattle.nodes.proofs.Sweeping.{Sweeping, starts, turn, ends, due-is}
 use Rattle.nodes.proofs.sweep_due.Statement.{statement}
 use Rattle.nodes.proofs.sweep_due.Tie as tie
-use Rattle.nodes.proofs.sweep_due.Reads as reads
-use Rattle.nodes.proofs.sweep_due.Lts as lts
-use Rattle.nodes.proofs.aged_before.Reads as aged-before-reads
-use Rattle.nodes.proofs.due.Reads as due-reads
-use Rattle.nodes.proofs.free_if.Reads as free-if-reads
 
 abbrev Inv-loop : tie.InvT-loop
 Inv-loop nodes₀ m p clock delay marks limit freed₀ i₀ nodes freed i = (limit ≡ clock - delay) × Sweeping (dueUnmarked (p .0) clock delay marks) m nodes₀ nodes freed i
@@ -19,48 +13,37 @@ Inv-loop nodes₀ m p clock delay marks limit freed₀ i₀ nodes freed i = (lim
 abbrev μ-loop : tie.MeasureT-loop
 μ-loop nodes₀ m p clock delay marks limit freed₀ i₀ nodes freed i = m - i
 
--- src/lib.rt:167:9
 aged-before-requires : tie.Need-aged-before-requires Inv-loop μ-loop
 aged-before-requires c κs = search needs
 
--- src/lib.rt:170:5
 loop-holds : tie.Need-loop-holds Inv-loop μ-loop
 loop-holds c = (c .aged-before .ensures, starts (c .before .before .pre))
 
--- src/lib.rt:171:13
 due-requires : tie.Need-due-requires Inv-loop μ-loop
 due-requires c κs = search needs
 
--- src/lib.rt:172:18
 free-if-requires : tie.Need-free-if-requires Inv-loop μ-loop
 free-if-requires c κs = search needs
 
--- src/lib.rt:172:9
-add-freed : tie.Need-add-freed Inv-loop μ-loop
-add-freed c = omega (arith, one-most (c .before .before .before .before .due .result))
-
--- src/lib.rt:173:9
 add-i : tie.Need-add-i Inv-loop μ-loop
 add-i c = search needs
 
--- src/lib.rt:170:5
 loop-less : tie.Need-loop-less Inv-loop μ-loop
 loop-less c = search needs
 
--- src/lib.rt:170:5
 loop-again : tie.Need-loop-again Inv-loop μ-loop
-loop-again c = 
+loop-again c =
     let a = c .before .before .before .before .before .before .before .before .before .before .args in
-    let k = c .before .before .before .before .before .before .before .loop in
-    (k .inv .0, turn (k .inv .1) (c .before .before .before .before .before .before .loop-test .taken)
-    (c .before .before .before .before .due .ensures ∙ due-is (nodeIn (a .m) (k .nodes) (k .i)) (a .marks .now) (a .p .0) (a .clock) (a .delay) (k .i) (k .inv .0))
-    (c .before .before .free-if .ensures))
+    let k = c .before .before .before .before .before .before .before .loop in (
+      k .inv .0,
+      turn (k .inv .1) (c .before .before .before .before .before .before .loop-test .taken)
+          (c .before .before .before .before .due .ensures ∙ due-is (nodeIn (a .m) (k .nodes) (k .i)) (a .marks .now) (a .p .0) (a .clock) (a .delay) (k .i) (k .inv .0))
+          (c .before .before .free-if .ensures),
+    )
 
--- src/lib.rt:163:1
 same-length : tie.Need-same-length Inv-loop μ-loop
 same-length c = search needs
 
--- src/lib.rt:163:1
 returns : tie.Need-returns Inv-loop μ-loop
 returns c = ends (c .before .loop .inv .1) (c .loop-test .left)
 
@@ -74,7 +57,6 @@ sweep-due-spec =
     loop-holds
     due-requires
     free-if-requires
-    add-freed
     add-i
     loop-less
     loop-again
