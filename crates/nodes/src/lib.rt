@@ -85,13 +85,13 @@ pub fn reachable_count(nodes: &[u32], m: u32) -> u32
     requires { ⌜ Part m (now nodes) ⌝ }
     ensures { λ r. ⌜ r ≡ count (λ n. eqb (n .state) Reachable) (nodesIn m (now (nodes .entry))) ⌝ }
 {
-    let mut found: u32 = 0;
+    let mut reachable: u32 = 0;
     let mut i: u32 = 0;
     while i < m {
-        found += one_if(state_of(nodes, m, NodeId(i)) == REACHABLE);
+        reachable += one_if(state_of(nodes, m, NodeId(i)) == REACHABLE);
         i += 1;
     }
-    found
+    reachable
 }
 
 // Two words as one number.
@@ -115,13 +115,13 @@ pub fn retired_count(nodes: &[u32], m: u32, p: ProcessId) -> u32
     requires { ⌜ Part m (now nodes) ⌝ }
     ensures { λ r. ⌜ r ≡ count (retiredBy (p .0)) (nodesIn m (now (nodes .entry))) ⌝ }
 {
-    let mut found: u32 = 0;
+    let mut retired: u32 = 0;
     let mut i: u32 = 0;
     while i < m {
-        found += one_if(retired_by(nodes, m, NodeId(i), p));
+        retired += one_if(retired_by(nodes, m, NodeId(i), p));
         i += 1;
     }
-    found
+    retired
 }
 
 // Sets the mark of a node, given as its number + 1, or the mark 0 of none.
@@ -193,8 +193,8 @@ pub fn sweep_due(
     let mut freed: u32 = 0;
     let mut i: u32 = 0;
     while i < m {
-        let passed = due(nodes, m, NodeId(i), p, limit, marks);
-        freed = free_if(nodes, m, NodeId(i), passed, freed);
+        let is_due = due(nodes, m, NodeId(i), p, limit, marks);
+        freed = free_if(nodes, m, NodeId(i), is_due, freed);
         i += 1;
     }
     freed
@@ -208,8 +208,8 @@ pub fn sweep_expired(nodes: &mut [u32], m: u32, p: ProcessId, epoch: u32) -> u32
     let mut freed: u32 = 0;
     let mut i: u32 = 0;
     while i < m {
-        let passed = expired(nodes, m, NodeId(i), p, epoch);
-        freed = free_if(nodes, m, NodeId(i), passed, freed);
+        let is_expired = expired(nodes, m, NodeId(i), p, epoch);
+        freed = free_if(nodes, m, NodeId(i), is_expired, freed);
         i += 1;
     }
     freed

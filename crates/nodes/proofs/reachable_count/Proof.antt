@@ -10,10 +10,10 @@ use Rattle.nodes.proofs.reachable_count.Statement.{statement}
 use Rattle.nodes.proofs.reachable_count.Tie as tie
 
 abbrev Inv-loop : tie.InvT-loop
-Inv-loop nodes m found₀ i₀ found i = Counting (λ n. eqb (n .state) Reachable) m nodes found i
+Inv-loop nodes m reachable₀ i₀ reachable i = Counting (λ n. eqb (n .state) Reachable) m nodes reachable i
 
 abbrev μ-loop : tie.MeasureT-loop
-μ-loop nodes m found₀ i₀ found i = m - i
+μ-loop nodes m reachable₀ i₀ reachable i = m - i
 
 loop-holds : tie.Need-loop-holds Inv-loop μ-loop
 loop-holds c = starts (c .before .pre)
@@ -24,8 +24,8 @@ state-of-requires c κs = search needs
 one-if-requires : tie.Need-one-if-requires Inv-loop μ-loop
 one-if-requires c κs = search needs
 
-add-found : tie.Need-add-found Inv-loop μ-loop
-add-found c = search needs
+add-reachable : tie.Need-add-reachable Inv-loop μ-loop
+add-reachable c = search needs
 
 add-i : tie.Need-add-i Inv-loop μ-loop
 add-i c = search needs
@@ -48,7 +48,7 @@ reachable-count-spec =
     loop-holds
     state-of-requires
     one-if-requires
-    add-found
+    add-reachable
     add-i
     loop-less
     loop-again

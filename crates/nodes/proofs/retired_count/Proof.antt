@@ -9,10 +9,10 @@ use Rattle.nodes.proofs.retired_count.Statement.{statement}
 use Rattle.nodes.proofs.retired_count.Tie as tie
 
 abbrev Inv-loop : tie.InvT-loop
-Inv-loop nodes m p found₀ i₀ found i = Counting (retiredBy (p .0)) m nodes found i
+Inv-loop nodes m p retired₀ i₀ retired i = Counting (retiredBy (p .0)) m nodes retired i
 
 abbrev μ-loop : tie.MeasureT-loop
-μ-loop nodes m p found₀ i₀ found i = m - i
+μ-loop nodes m p retired₀ i₀ retired i = m - i
 
 loop-holds : tie.Need-loop-holds Inv-loop μ-loop
 loop-holds c = starts (c .before .pre)
@@ -23,8 +23,8 @@ retired-by-requires c κs = search needs
 one-if-requires : tie.Need-one-if-requires Inv-loop μ-loop
 one-if-requires c κs = search needs
 
-add-found : tie.Need-add-found Inv-loop μ-loop
-add-found c = search needs
+add-retired : tie.Need-add-retired Inv-loop μ-loop
+add-retired c = search needs
 
 add-i : tie.Need-add-i Inv-loop μ-loop
 add-i c = search needs
@@ -47,7 +47,7 @@ retired-count-spec =
     loop-holds
     retired-by-requires
     one-if-requires
-    add-found
+    add-retired
     add-i
     loop-less
     loop-again
