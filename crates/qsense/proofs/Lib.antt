@@ -1,0 +1,4 @@
+pub mod Through
+pub mod Made
+pub mod Carry
+pub mod Theorems

@@ -1,0 +1,41 @@
+-- On the words of a well-formed domain a step, a run and its accepted steps are the model's. Assumes nothing.
+use Prim.Native.Nat.{ℕ, _+_}
+use mathlib.Core.Bool.{true, _&&_, cond}
+use mathlib.Core.List.{List, [], _∷_}
+use mathlib.Core.Path.{_≡_, refl, ap, _∙_}
+use lib.Dec.{eqb}
+use Rattle.model.specs.State.{Domain, Step}
+use Rattle.model.specs.WellFormed.{WellFormed}
+use Rattle.model.specs.Machine.{step, run}
+use Rattle.model.specs.Claims.{acceptedOf}
+use Rattle.model.proofs.Theorems.{step-well-formed}
+use Rattle.layout.specs.Encode.{encode, decode}
+use Rattle.layout.specs.Words.{wellFormed}
+use Rattle.layout.proofs.Sound.{decoded}
+use Rattle.layout.proofs.Checked.{well-formed-encode}
+use Rattle.qsense.specs.Calls.{Reply, throughWords, stepWords, runWords}
+use Rattle.qsense.specs.Demands.{acceptedIn}
+
+-- words that pass the test are stepped
+pub stepped : (ws : List ℕ) (s : Step) → wellFormed ws ≡ true → stepWords ws s ≡ throughWords (step (decode ws) s)
+unfolding stepWords
+stepped ws s e = rw e
+
+pub step-through : {d : Domain} → WellFormed d → (s : Step) → stepWords (encode d) s ≡ throughWords (step d s)
+step-through {d} f s =
+    stepped (encode d) s (well-formed-encode f) ∙ ap (λ (x : Domain). throughWords (step x s)) (decoded refl f)
+
+pub run-through : (ss : List Step) {d : Domain} → WellFormed d → runWords (encode d) ss ≡ encode (run d ss)
+run-through [] f = refl
+run-through (s ∷ ss) {d} f =
+    ap (λ (r : Reply). runWords (r .words) ss) (step-through f s) ∙ run-through ss (step-well-formed d s f)
+
+pub run-well-formed : (ss : List Step) {d : Domain} → WellFormed d → WellFormed (run d ss)
+run-well-formed [] f = f
+run-well-formed (s ∷ ss) {d} f = run-well-formed ss (step-well-formed d s f)
+
+pub accepted-through : (k : ℕ) (ss : List Step) {d : Domain} → WellFormed d → acceptedIn k (encode d) ss ≡ acceptedOf k d ss
+accepted-through k [] f = refl
+accepted-through k (s ∷ ss) {d} f =
+    ap (λ (r : Reply). cond (eqb (r .refusal) 0 && eqb (s .kind) k) 1 0 + acceptedIn k (r .words) ss) (step-through f s)
+    ∙ ap (λ (n : ℕ). cond (eqb (step d s .refusal) 0 && eqb (s .kind) k) 1 0 + n) (accepted-through k ss (step-well-formed d s f))
