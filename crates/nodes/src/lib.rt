@@ -132,18 +132,6 @@ pub fn mark(marks: &mut [bool; 257], v: u32)
     marks[layout::wide(v)] = true;
 }
 
-<<<<<<< HEAD
-// Is node c due: Retired by p more than `delay` before `clock`, its mark not set?
-fn due(
-    nodes: &[u32],
-    m: u32,
-    c: NodeId,
-    p: ProcessId,
-    clock: u32,
-    delay: u32,
-    marks: &[bool; 257],
-) -> bool
-=======
 // The clock below which a node must have been retired to be aged.
 fn aged_before(clock: u32, delay: u32) -> u32
     ensures { λ r. ⌜ r ≡ clock - delay ⌝ }
@@ -153,7 +141,6 @@ fn aged_before(clock: u32, delay: u32) -> u32
 
 // Is node c due: Retired by p at a clock below the limit, its mark not set?
 fn due(nodes: &[u32], m: u32, c: NodeId, p: ProcessId, limit: u32, marks: &[bool; 257]) -> bool
->>>>>>> f4b63bf3db6ce6b1cd9099e7c8d7216997894aae
     requires { ⌜ Part m (now nodes) × (c .0 < m) ⌝ }
     ensures { λ r. ⌜ r ≡ retiredBefore (p .0) limit (now (marks .entry)) (c .0) (nodeIn m (now (nodes .entry)) (c .0)) ⌝ }
 {
@@ -176,21 +163,6 @@ fn free_if(nodes: &mut [u32], m: u32, c: NodeId, passed: bool, freed: u32) -> u3
     ensures { λ r. ⌜ Freed m (now (nodes .entry)) (c .0) passed freed (now (nodes .exit)) r ⌝ }
 {
     if passed {
-<<<<<<< HEAD
-        put(
-            nodes,
-            m,
-            c,
-            Node {
-                state: 0,
-                owner: 0,
-                guest: 0,
-                retired: 0,
-                limbo: 0,
-            },
-        );
-        1
-=======
         let free = Node {
             state: 0,
             owner: 0,
@@ -200,7 +172,6 @@ fn free_if(nodes: &mut [u32], m: u32, c: NodeId, passed: bool, freed: u32) -> u3
         };
         put(nodes, m, c, free);
         freed + 1
->>>>>>> f4b63bf3db6ce6b1cd9099e7c8d7216997894aae
     } else {
         freed
     }

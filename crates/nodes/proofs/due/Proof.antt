@@ -37,19 +37,10 @@ element-copy-out-result c = search needs
 
 returns : tie.Need-returns
 returns c =
-<<<<<<< HEAD
-    due-test (nodeIn (c .before .before .before .before .before .before .before .before .before .args .m) (c .before .before .before .before .before .before .before .before .before .args .nodes .now) (c .before .before .before .before .before .before .before .before .before .args .c .0)) (c .before .before .before .before .before .before .before .before .before .args .marks .now) (c .before .before .before .before .before .before .before .before .before .args .p .0)
-    (c .before .before .retired-by .ensures)
-    (c .before .before .before .before .wide2 .ensures .0)
-    (c .before .before .before .before .before .wide .ensures .0 ∙ word-at (c .before .before .before .before .before .before .before .before .before .pre .0) (c .before .before .before .before .before .before .before .before .before .pre .1) (c .before .before .before .before .before .before .before .offset .ensures .0) 3 (omega arith))
-    (c .before .before .before .wide3 .ensures .0)
-    (c .before .wide4 .ensures .0)
-=======
     let h = c .before .before .before .before .before .before .pre in
     let retired = word-at (h .0) (h .1) (c .before .before .before .before .offset .ensures .0) 3 (omega arith) in
     let place = add-one _ ∙ ap suc (c .before .wide .ensures .0) in
     λ t. c .before .before .before .retired-by .ensures t && (ltb (retired t) (c .before .before .before .before .before .before .args .limit) && not (getD (c .before .before .before .before .before .before .args .marks .now) (place t) false))
->>>>>>> f4b63bf3db6ce6b1cd9099e7c8d7216997894aae
 
 pub due-spec : {M : Type 1} → statement M
 due-spec =

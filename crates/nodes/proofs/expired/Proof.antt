@@ -26,10 +26,7 @@ shared-slice-read-result c = search needs
 
 returns : tie.Need-returns
 returns c =
-<<<<<<< HEAD
-=======
     let h = c .before .before .before .before .pre in
->>>>>>> f4b63bf3db6ce6b1cd9099e7c8d7216997894aae
     ap₂ (λ (b : Bool) (n : ℕ). b && eqb n (c .before .before .before .before .args .epoch)) (c .before .retired-by .ensures)
     (word-at (h .0) (h .1) (c .before .before .offset .ensures .0) 4 (omega arith))
 

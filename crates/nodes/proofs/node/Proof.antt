@@ -49,12 +49,8 @@ shared-slice-read-t21 c = search needs
 
 returns : tie.Need-returns
 returns c =
-<<<<<<< HEAD
-    let word = word-at (c .before .before .before .before .before .before .before .pre .0) (c .before .before .before .before .before .before .before .pre .1) (c .before .before .before .before .before .offset .ensures .0) in
-=======
     let h = c .before .before .before .before .before .before .before .pre in
     let word = word-at (h .0) (h .1) (c .before .before .before .before .before .offset .ensures .0) in
->>>>>>> f4b63bf3db6ce6b1cd9099e7c8d7216997894aae
     λ t. record {
       state = c .before .before .before .before .state-of .ensures t;
       owner = word 1 (omega arith) t;

@@ -54,10 +54,7 @@ same-length c = search needs
 
 returns : tie.Need-returns
 returns c =
-<<<<<<< HEAD
-=======
     let h = c .before .before .before .before .before .before .pre in
->>>>>>> f4b63bf3db6ce6b1cd9099e7c8d7216997894aae
     simp towards-suc
     (rest-set (h .0) (h .1) (c .before .before .before .before .offset .ensures .0) _ (c .before .before .set-state .ensures))
 

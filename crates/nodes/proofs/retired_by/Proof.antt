@@ -33,15 +33,10 @@ pair-requires-2 c κs = search needs
 
 returns : tie.Need-returns
 returns c =
-<<<<<<< HEAD
-    ap₂ (λ (s o : ℕ). eqb s 4 && eqb o (c .before .before .before .before .before .args .p .0)) (c .before .before .state-of .ensures)
-    (word-at (c .before .before .before .before .before .pre .0) (c .before .before .before .before .before .pre .1) (c .before .before .before .offset .ensures .0) 1 (omega arith))
-=======
     let h = c .before .before .before .before .before .before .pre in
     let owner = word-at (h .0) (h .1) (c .before .before .before .before .offset .ensures .0) 1 (omega arith) in
     eqb-pair _ _ _ _ (c .before .pair .ensures .0) (c .pair2 .ensures .0) (c .before .pair .ensures .1) (c .pair2 .ensures .1)
     ∙ (λ t. eqb (c .before .before .before .state-of .ensures t) Retired && eqb (owner t) (c .before .before .before .before .before .before .args .p .0))
->>>>>>> f4b63bf3db6ce6b1cd9099e7c8d7216997894aae
 
 pub retired-by-spec : {M : Type 1} → statement M
 retired-by-spec =
