@@ -28,15 +28,6 @@ past-last {ws} s c h = sym (List·getD-eq-default (decode ws .nodes) freeNode {n
 pub held-by : (k : Kind) (p : ℕ) (x y : Node) (r : ℕ) → r ≡ held k (x .state) (x .owner) p → x ≡ y → r ≡ held k (y .state) (y .owner) p
 held-by k p x y r e q = e ∙ ap (λ z. held k (z .state) (z .owner) p) q
 
--- an assigned node is one of the nodes
-pub assigned-in : {ws : List ℕ} → Sound ws → (p h : ℕ) → p < word ws 0 → h < word ws 1
-    → (y : Hazard) → y ≡ hazardOf (processOf (decode ws) p) h → y .assigned ≢ 0 → y .assigned - 1 < word ws 2
-unfolding decodeBy
-assigned-in {ws} s p h lp lh y e z =
-    let f = process-fits (s .domain) p lp .stores in
-    let g = all-at (HazardFits (decode ws .params)) (processOf (decode ws) p .hazards) h emptyHazard (f .hazards) (omega (arith, f .width)) in
-    let q : y .assigned ≤ word ws 2 = rw e (g .assigned) in omega arith
-
 module _ (d : Domain) (s : Step) (y : Hazard) (e : y ≡ pointer d s) where
   pub none-assigned : y .assigned ≡ 0
       → _≡_ {A = ℕ} 10 (cond (not (eqb (pointer d s .assigned) 0)) (cond (eqb (target d s .state) Reachable) 0 11) 10)
