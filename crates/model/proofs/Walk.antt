@@ -41,7 +41,7 @@ pub record Asked (k : Kind) (d : Domain) (s : Step) : Type 0 where
   pub unassigned' : is k Manage ≡ true → unassigned (here d s) ≡ true
 
 -- where no question has the number 0, no first no means all yes
-all-yes : (qs : List Question) → every (λ q. not (eqb (q .number) 0)) qs ≡ true → firstNo qs ≡ 0 → every (λ q. q .yes') qs ≡ true
+pub all-yes : (qs : List Question) → every (λ q. not (eqb (q .number) 0)) qs ≡ true → firstNo qs ≡ 0 → every (λ q. q .yes') qs ≡ true
 all-yes [] n h = refl
 all-yes (q ∷ qs) n h = by (q .yes') h (all-yes qs (both (not (eqb (q .number) 0)) _ n .1))
   where

@@ -1,18 +1,20 @@
 -- The answers to a check's questions, and the node that a hazard names. Assumes nothing.
 use Prim.Native.Nat.{ℕ, _-_, _<_, _≤_}
-use mathlib.Core.Bool.{not, cond}
+use mathlib.Core.Bool.{Bool, not, cond}
 use mathlib.Core.List.{List}
 use mathlib.Core.Path.{_≡_, refl, sym, _∙_, ap}
 use mathlib.Core.Logic.{_≢_}
 use native.Mathlib.Omega.{arith}
-use borrow.Author.Tests.{eq-eqb, ne-eqb}
-use lib.Dec.{eqb}
+use borrow.Author.Tests.{eq-eqb, ne-eqb, le-ltb, lt-ltb}
+use lib.Dec.{ltb, eqb}
 use lib.ListN.{List·getD-eq-default}
 use Rattle.lists.proofs.Facts.{all-at}
 use Rattle.model.specs.WellFormed.{HazardFits}
 use Rattle.model.specs.State.{Hazard, Node, Domain, Step, Reachable, emptyHazard, freeNode, nodeOf, processOf, hazardOf}
 use Rattle.model.specs.Kinds.{Kind}
-use Rattle.model.specs.Hazards.{pointer, target}
+use Rattle.lists.specs.Tests.{every}
+use Rattle.model.specs.Params.{lastClock}
+use Rattle.model.specs.Hazards.{pointer, target, young}
 use Rattle.model.proofs.WellFormed.{process-fits}
 use Rattle.layout.specs.Shape.{word}
 use Rattle.layout.specs.Encode.{decode, decodeBy}
@@ -39,3 +41,12 @@ module _ (d : Domain) (s : Step) (y : Hazard) (e : y ≡ pointer d s) where
       let a : y .assigned ≡ pointer d s .assigned = ap (λ w. w .assigned) e in
       let there : x ≡ target d s = q ∙ ap (λ n. nodeOf d (n - 1)) a in
       rw (ne-eqb (pointer d s .assigned) 0 (λ w. z (a ∙ w))) (t ∙ ap (λ n. cond (eqb (n .state) Reachable) 0 11) there)
+
+-- the clock's questions
+module _ (d : Domain) (n : ℕ) (e : n ≡ d .clock) where
+  pub stopped : lastClock ≤ n → _≡_ {A = ℕ} 15 (cond (ltb (d .clock) lastClock) (cond (every (young d) (d .processes)) 0 16) 15)
+  stopped h = rw (le-ltb (d .clock) lastClock (omega arith))
+
+  pub running : n < lastClock → (r : ℕ) (b : Bool) → r ≡ cond b 0 16 → b ≡ every (young d) (d .processes)
+      → r ≡ cond (ltb (d .clock) lastClock) (cond (every (young d) (d .processes)) 0 16) 15
+  running h r b er eb = rw (lt-ltb (d .clock) lastClock (omega arith), ← eb) er

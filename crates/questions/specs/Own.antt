@@ -1,13 +1,14 @@
 -- The questions that a kind asks beside the table, 10 to 17, and the refusal in three parts. Assumes nothing.
-use Prim.Native.Nat.{ℕ}
-use mathlib.Core.Bool.{not, _||_, cond}
+use Prim.Native.Nat.{ℕ, _<_}
+use mathlib.Core.Bool.{true, not, _||_, cond}
+use mathlib.Core.Path.{_≡_}
 use mathlib.Core.List.{[], _∷_}
 use lib.ListN.{length}
 use lib.Dec.{ltb, eqb}
 use Rattle.lists.specs.Tests.{every, implies}
 use Rattle.model.specs.Params.{bufferSize, lastClock}
 use Rattle.model.specs.State.{Domain, Step, Reachable}
-use Rattle.model.specs.Kinds.{Kind, is, Protect, Check, Use, Clear, Drain, Tick, Manage}
+use Rattle.model.specs.Kinds.{Kind, is, means, rowOf, ProcessId, HazardId, Protect, Check, Use, Clear, Drain, Tick, Manage}
 use Rattle.model.specs.Hazards.{here, pointer, target, young, unassigned}
 use Rattle.model.specs.Questions.{ask, firstNo}
 
@@ -31,3 +32,8 @@ first a b = cond (eqb a 0) b a
 -- a step of this process and hazard
 abbrev pub stepOf : ℕ → ℕ → Step
 stepOf p h = record { kind = 0; process = p; hazard = h; node = 0; guest = 0 }
+
+-- process and hazard are below their bounds, where the kind reads them
+pub record Bounded (k : Kind) (n m p h : ℕ) : Type 0 where
+  pub process : means (rowOf k .process) ProcessId ≡ true → p < n
+  pub hazard : means (rowOf k .hazard) HazardId ≡ true → h < m

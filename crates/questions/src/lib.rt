@@ -4,18 +4,21 @@ use layout::NodeId;
 use layout::ProcessId;
 ghost use mathlib.Core.Path.{_≡_};
 ghost use mathlib.Core.Bool.{not, cond};
-ghost use Prim.Native.Nat.{_<_};
+ghost use Prim.Native.Nat.{ℕ, _<_};
 ghost use lib.ListN.{length};
 ghost use lib.Dec.{ltb, eqb};
-ghost use Rattle.model.specs.Params.{bufferSize};
+ghost use Rattle.lists.specs.Tests.{every};
+ghost use Rattle.model.specs.Params.{bufferSize, lastClock};
 ghost use Rattle.model.specs.State.{nodeOf, processOf, hazardOf, Reachable};
 ghost use Rattle.model.specs.Kinds.{kindOf};
-ghost use Rattle.model.specs.Hazards.{pointer, target, unassigned};
+ghost use Rattle.model.specs.Hazards.{pointer, target, young, unassigned};
+ghost use Rattle.model.specs.Questions.{refusalOf};
 ghost use Rattle.layout.specs.Shape.{word};
 ghost use Rattle.layout.specs.Encode.{decode};
 ghost use Rattle.layout.specs.Sound.{Sound};
 ghost use Rattle.kinds.specs.Table.{held};
-ghost use Rattle.questions.specs.Own.{stepOf};
+ghost use Rattle.domain.specs.Effects.{given};
+ghost use Rattle.questions.specs.Own.{stepOf, own, Bounded};
 
 // 0 for a yes, the question's number for a no.
 fn unless(yes: bool, number: u32) -> u32
@@ -83,4 +86,49 @@ fn idle(words: &[u32], p: ProcessId) -> u32
     ensures { λ r. ⌜ r ≡ cond (unassigned (processOf (decode (now (words .entry))) (p .0))) 0 17 ⌝ }
 {
     unless(domain::unassigned(words, p), 17)
+}
+
+// Questions 15 and 16: can the clock go on, and is every pending store younger than the delay?
+fn tickable(words: &[u32]) -> u32
+    requires { ⌜ Sound (now words) ⌝ }
+    ensures { λ r. ⌜ r ≡ cond (ltb (decode (now (words .entry)) .clock) lastClock) (cond (every (young (decode (now (words .entry)))) (decode (now (words .entry)) .processes)) 0 16) 15 ⌝ }
+{
+    let clock = domain::clock(words);
+    if 4294967295 <= clock {
+        return 15;
+    }
+    unless(processes::all_young(words), 16)
+}
+
+// Questions 10 to 17, each of the kinds that it is about.
+fn own(words: &[u32], kind: u32, p: ProcessId, h: HazardId) -> u32
+    requires { ⌜ Sound (now words) × Bounded (kindOf kind) (word (now words) 0) (word (now words) 1) (p .0) (h .0) ⌝ }
+    ensures { λ r. ⌜ r ≡ own (kindOf kind) (decode (now (words .entry))) (stepOf (p .0) (h .0)) ⌝ }
+{
+    match kind {
+        3 => room(words, p),
+        4 => checkable(words, p, h),
+        5 => usable(words, p, h),
+        6 => room(words, p),
+        9 => some_store(words, p),
+        11 => tickable(words),
+        12 => idle(words, p),
+        _ => 0,
+    }
+}
+
+// The refusal of a step: the first question with the answer no.
+pub fn refusal(words: &[u32], kind: u32, p: ProcessId, h: HazardId, c: NodeId) -> u32
+    requires { ⌜ Sound (now words) ⌝ }
+    ensures { λ r. ⌜ ((guest : ℕ) → r ≡ refusalOf (kindOf kind) (decode (now (words .entry))) (given kind (p .0) (h .0) (c .0) guest)) ⌝ }
+{
+    let outside = kinds::ranges(kind, p, h, c, domain::bounds(words));
+    if outside != 0 {
+        return outside;
+    }
+    let unheld = node_questions(words, kind, p, c);
+    if unheld != 0 {
+        return unheld;
+    }
+    own(words, kind, p, h)
 }
