@@ -11,3 +11,5 @@ pub mod RowParts
 pub mod Moves
 pub mod Turns
 pub mod Tested
+pub mod Agree
+pub mod Mapped

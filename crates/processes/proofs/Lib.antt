@@ -1,1 +1,4 @@
 pub mod Passing
+pub mod Clearing
+pub mod Marks
+pub mod ByMarks
