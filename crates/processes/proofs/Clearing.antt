@@ -6,7 +6,8 @@ use native.Mathlib.Omega.{arith}
 use native.Mathlib.Numerals.{add-one}
 use lib.ListN.{length}
 use Rattle.lists.proofs.Mapped.{mappedTo, mapped-turn, mapped-all}
-use Rattle.model.specs.State.{Process, Domain, noProcess, processOf, withProcesses, setProcess, withWords, absent, clearPresence}
+use Rattle.model.specs.State.{Process, Domain, noProcess, processOf, withProcesses, setProcess, withWords, absent}
+use Rattle.model.specs.State.{clearPresence}
 use Rattle.model.specs.WellFormed.{WellFormed}
 use Rattle.model.proofs.WellFormed.{process-fits, fits-words, keep-process}
 use Rattle.layout.specs.Shape.{word, leadOf}
@@ -16,6 +17,7 @@ use Rattle.layout.specs.Values.{paramsValue, leadValue}
 use Rattle.layout.specs.declared.Params.{Params}
 use Rattle.layout.specs.declared.Lead.{Lead}
 use Rattle.layout.proofs.Sound.{head-words, decoded, sound-at}
+use Rattle.processes.proofs.Bounds.{processes-length, processes-word}
 
 -- d with the first p processes absent
 abbrev absentTo : Domain → ℕ → Domain
@@ -31,38 +33,31 @@ pub record Clearing (ws₀ ws : List ℕ) (n p : ℕ) : Type 0 where
   pub domain : decode ws ≡ absentTo (decode ws₀) p
 
 pub starts : {ws : List ℕ} {a : Params} → Sound ws → paramsValue a ≡ decode ws .params → Clearing ws ws (a .processes) 0
-starts {ws} s e =
-    let q = ap (λ b. b .processes) e in
+starts s e =
     record {
       sound = s;
-      many = q ∙ sym (head-words ws .processes);
+      many = processes-word s e;
       low = omega arith;
       long = refl;
-      whole = s .domain .processCount ∙ sym q;
+      whole = processes-length s ∙ sym (processes-word s e);
       domain = refl;
     }
 
 module _ {ws₀ ws : List ℕ} {n p : ℕ} (h : Clearing ws₀ ws n p) where
   module _ {ws′ : List ℕ} {a : Lead} (l : p < n) (k : length ws′ ≡ length ws) (e : leadValue a ≡ leadOf (processOf (decode ws) p))
       (u : ws′ ≡ encode (setProcess (decode ws) p (withWords (processOf (decode ws) p) (a .epoch) (a .calls) 0))) where
-    x : Process
-    x = processOf (decode ws) p
-
     inside : p < decode ws .params .processes
     inside = omega (arith, h .many, head-words ws .processes)
 
-    written : ws′ ≡ encode (setProcess (decode ws) p (absent x))
-    unfolding x
+    written : ws′ ≡ encode (setProcess (decode ws) p (absent (processOf (decode ws) p)))
     written = u ∙ (λ t. encode (setProcess (decode ws) p (withWords (processOf (decode ws) p) (e t .epoch) (e t .calls) 0)))
 
-    fits : WellFormed (setProcess (decode ws) p (absent x))
-    unfolding x
+    fits : WellFormed (setProcess (decode ws) p (absent (processOf (decode ws) p)))
     fits =
         let f = process-fits (h .sound .domain) p inside in
         keep-process (h .sound .domain) p _ (fits-words f _ _ 0 (f .words .epoch) (f .words .calls) (omega arith))
 
     domain-more : decode ws′ ≡ absentTo (decode ws₀) (p + 1)
-    unfolding x
     domain-more =
         decoded written fits
         ∙ (ap (λ (d : Domain). setProcess d p (absent (processOf d p))) (h .domain)

@@ -1,3 +1,4 @@
+pub mod Bounds
 pub mod Passing
 pub mod Clearing
 pub mod Marks

@@ -13,7 +13,7 @@ use Rattle.lists.specs.Tests.{lacks}
 use Rattle.lists.specs.Rows.{rows}
 use Rattle.processes.specs.Marks.{marking}
 
-pub marking-append : (s : List Bool) (us vs : List ℕ) → marking s (us ++ vs) ≡ marking (marking s us) vs
+marking-append : (s : List Bool) (us vs : List ℕ) → marking s (us ++ vs) ≡ marking (marking s us) vs
 unfolding marking
 marking-append s [] vs = refl
 marking-append s (u ∷ us) vs = marking-append (set s u true) us vs
@@ -43,22 +43,22 @@ rows-one f [] = refl
 rows-one f (x ∷ xs) = ap (λ (r : List ℕ). f x ∷ r) (rows-one f xs)
 
 -- the rows of the first i elements are marked: the rows of the others make all of them
-pub record Marking {A : Type 0} (f : A → List ℕ) (l : List A) (i : ℕ) (s₀ s : List Bool) : Type 0 where
+pub record MarkedTo {A : Type 0} (f : A → List ℕ) (l : List A) (i : ℕ) (s₀ s : List Bool) : Type 0 where
   pub rest : marking s (rows f (drop i l)) ≡ marking s₀ (rows f l)
 
 module _ {A : Type 0} {f : A → List ℕ} {l : List A} where
-  pub starts : {s : List Bool} → Marking f l 0 s s
+  pub starts : {s : List Bool} → MarkedTo f l 0 s s
   starts = record { rest = refl }
 
-  pub turn : {i : ℕ} {s₀ s s′ : List Bool} (a : A) → Marking f l i s₀ s → i < length l → s′ ≡ marking s (f (getD l i a))
-      → Marking f l (i + 1) s₀ s′
-  turn {i} {s₀} {s} {s′} a h k e =
+  pub turn : {i : ℕ} {s₀ s s′ : List Bool} (a : A) → MarkedTo f l i s₀ s → i < length l → s′ ≡ marking s (f (getD l i a))
+      → MarkedTo f l (i + 1) s₀ s′
+  turn {i} {s = s} a h k e =
       record {
         rest = rw (add-one, e)
             (sym (marking-append s (f (getD l i a)) (rows f (drop (suc i) l)))
             ∙ (ap (λ r. marking s (rows f r)) (sym (drop-cons l i a k)) ∙ h .rest));
       }
 
-  pub ends : {i : ℕ} {s₀ s : List Bool} → Marking f l i s₀ s → length l ≤ i → s ≡ marking s₀ (rows f l)
+  pub ends : {i : ℕ} {s₀ s : List Bool} → MarkedTo f l i s₀ s → length l ≤ i → s ≡ marking s₀ (rows f l)
   unfolding marking
-  ends {i} {s₀} {s} h k = rw (drop-of-length-le l k) at (h .rest)
+  ends h k = rw (drop-of-length-le l k) at (h .rest)

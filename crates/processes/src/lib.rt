@@ -40,11 +40,11 @@ pub fn caught_up(words: &[u32]) -> bool
     let n = domain::bounds(words).processes;
     let epoch = domain::epoch(words);
     let mut ok = true;
-    let mut p: u32 = 0;
-    while p < n {
-        let lead = domain::lead(words, ProcessId(p));
+    let mut q: u32 = 0;
+    while q < n {
+        let lead = domain::lead(words, ProcessId(q));
         ok = ok & (lead.epoch == epoch);
-        p += 1;
+        q += 1;
     }
     ok
 }
@@ -111,10 +111,10 @@ pub fn mark_visible(words: &[u32], marks: &mut [bool; 257])
     ensures { λ _. ⌜ ((p : ℕ) → now (marks .exit) ≡ marking (now (marks .entry)) (visibleTo (decode (now (words .entry))) p)) ⌝ }
 {
     let n = domain::bounds(words).processes;
-    let mut q: u32 = 0;
-    while q < n {
-        mark_process(words, ProcessId(q), marks);
-        q += 1;
+    let mut p: u32 = 0;
+    while p < n {
+        mark_process(words, ProcessId(p), marks);
+        p += 1;
     }
 }
 
