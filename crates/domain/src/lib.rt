@@ -33,7 +33,7 @@ fn nodes_at(words: &[u32]) -> usize
 }
 
 // Where the stretch of a process starts.
-fn process_at(words: &[u32], p: ProcessId) -> usize
+pub fn process_at(words: &[u32], p: ProcessId) -> usize
     requires { ⌜ Sound (now words) × (p .0 < word (now words) 0) ⌝ }
     ensures { λ r. ⌜ (r ≡ 9 + p .0 * (28 + 3 * word (now (words .entry)) 1)) × (r + (28 + 3 * word (now (words .entry)) 1) ≤ length (now (words .entry))) ⌝ }
 {

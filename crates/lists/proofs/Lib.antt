@@ -12,3 +12,5 @@ pub mod Moves
 pub mod Turns
 pub mod Tested
 pub mod Compares
+pub mod Agree
+pub mod Mapped

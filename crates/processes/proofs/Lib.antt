@@ -1,1 +1,5 @@
+pub mod Bounds
 pub mod Passing
+pub mod Clearing
+pub mod Marks
+pub mod ByMarks

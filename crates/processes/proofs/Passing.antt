@@ -2,9 +2,8 @@
 use Prim.Native.Nat.{ℕ, _+_, _<_, _≤_}
 use mathlib.Core.Bool.{Bool, true, _&&_}
 use mathlib.Core.List.{List}
-use mathlib.Core.Path.{_≡_, sym, ap, _∙_}
+use mathlib.Core.Path.{_≡_}
 use native.Mathlib.Omega.{arith}
-use lib.ListN.{length}
 use Rattle.lists.specs.Tests.{every}
 use Rattle.lists.proofs.Tested.{Tested, tested-none, tested-more, tested-all}
 use Rattle.model.specs.State.{Process, noProcess, processOf}
@@ -13,11 +12,7 @@ use Rattle.layout.specs.Encode.{decode}
 use Rattle.layout.specs.Sound.{Sound}
 use Rattle.layout.specs.Values.{paramsValue}
 use Rattle.layout.specs.declared.Params.{Params}
-use Rattle.layout.proofs.Sound.{head-words}
-
--- as many processes as the first word says
-pub processes-length : {ws : List ℕ} → Sound ws → length (decode ws .processes) ≡ word ws 0
-processes-length {ws} s = s .domain .processCount ∙ sym (head-words ws .processes)
+use Rattle.processes.proofs.Bounds.{processes-length, processes-word}
 
 -- the first p of n processes are tested, and ok says whether all of those pass
 pub record Passing (f : Process → Bool) (ws : List ℕ) (n p : ℕ) (ok : Bool) : Type 0 where
@@ -28,10 +23,10 @@ pub record Passing (f : Process → Bool) (ws : List ℕ) (n p : ℕ) (ok : Bool
 
 pub starts : {f : Process → Bool} {ws : List ℕ} {a : Params} → Sound ws → paramsValue a ≡ decode ws .params
     → Passing f ws (a .processes) 0 true
-starts {f} {ws} s e =
+starts s e =
     record {
       sound = s;
-      many = ap (λ b. b .processes) e ∙ sym (head-words ws .processes);
+      many = processes-word s e;
       low = omega arith;
       tested = tested-none;
     }

@@ -8,10 +8,10 @@ use Rattle.processes.proofs.caught_up.Statement.{statement}
 use Rattle.processes.proofs.caught_up.Tie as tie
 
 abbrev Inv-loop : tie.InvT-loop
-Inv-loop words n epoch ok₀ p₀ ok p = Passing (λ x. eqb (x .epoch) (decode words .epoch)) words n p ok
+Inv-loop words n epoch ok₀ q₀ ok q = Passing (λ x. eqb (x .epoch) (decode words .epoch)) words n q ok
 
 abbrev μ-loop : tie.MeasureT-loop
-μ-loop words n epoch ok₀ p₀ ok p = n - p
+μ-loop words n epoch ok₀ q₀ ok q = n - q
 
 bounds-requires : tie.Need-bounds-requires Inv-loop μ-loop
 bounds-requires c κs = search needs
@@ -25,8 +25,8 @@ loop-holds c = starts (c .before .before .before .pre) (c .before .bounds .ensur
 lead-requires : tie.Need-lead-requires Inv-loop μ-loop
 lead-requires c κs = search needs
 
-add-p : tie.Need-add-p Inv-loop μ-loop
-add-p c = search needs
+add-q : tie.Need-add-q Inv-loop μ-loop
+add-q c = search needs
 
 loop-less : tie.Need-loop-less Inv-loop μ-loop
 loop-less c = search needs
@@ -47,7 +47,7 @@ caught-up-spec =
     epoch-requires
     loop-holds
     lead-requires
-    add-p
+    add-q
     loop-less
     loop-again
     returns)
