@@ -1,22 +1,22 @@
 -- The buffer of a stretch lent and given back: the oldest store drained, all stores flushed. Assumes nothing.
-use Prim.Native.Nat.{ℕ, suc, _+_, _*_, _-_, _<_, _≤_}
+use Prim.Native.Nat.{ℕ, _+_, _*_, _-_, _<_, _≤_}
 use mathlib.Core.List.{List, [], _∷_, _++_, append-assoc, append-nil}
 use mathlib.Core.Logic.{_≢_}
-use mathlib.Core.Path.{_≡_, refl, sym, ap, ap₂, subst, _∙_}
+use mathlib.Core.Path.{_≡_, refl, sym, ap, ap₂, _∙_}
 use native.Mathlib.Omega.{arith}
 use native.Mathlib.Numerals.{add-one}
-use lib.ListN.{length, take, drop, getD, set, replicate, length-drop, length-set, length-replicate, replicate-append-replicate}
+use lib.ListN.{length, take, drop, getD, set, replicate, length-drop, length-set, replicate-append-replicate}
 use lib.Seq.{drop-cons, drop-length}
 use borrow.Rule.Slice.PartMut.{putMid}
 use Rattle.lists.specs.Rows.{rows}
-use Rattle.lists.specs.Tests.{All}
 use Rattle.lists.proofs.RowParts.{lent-part, put-part}
 use Rattle.model.specs.State.{Pending, Process, withStores}
 use Rattle.model.specs.Hazards.{committing, drained, flushed}
 use Rattle.layout.specs.Shape.{word, pendingWords}
-use Rattle.layout.specs.Encode.{bufferWords, processWordsBy, processWords, processAt}
+use Rattle.layout.specs.Encode.{bufferWords, processWords, processAt}
 use Rattle.stretch.specs.Stretch.{Stretch, noStore, storeOf}
-use Rattle.stretch.proofs.Words.{front, front-buffer, width-front, width-buffer, width-stores, hazards-length, process-back, width-process, stretch-of}
+use Rattle.stretch.proofs.Words.{front, front-buffer, width-front, width-buffer, width-stores, hazards-length}
+use Rattle.stretch.proofs.Words.{process-back, width-process, stretch-of}
 
 -- the first words of a buffer, t, lent, with m stores said to be pending
 module _ (y : Process) (m a w : ℕ) (t z r : List ℕ) (eb : bufferWords (y .buffer) ≡ t ++ z) (ea : a ≡ 4 + 3 * length (y .hazards))
@@ -105,7 +105,7 @@ module _ (k i : ℕ) (r₀ r : List ℕ) (f : Flushing k r₀ r i) where
       let full : length (x .buffer) ≤ 8 = omega (arith, f .stretch .stores, f .stretch .room) in
       let back : processAt k r₁ ≡ y = ap (λ (q : List ℕ). processAt k q) e ∙ process-back y k hk in
       record {
-        stretch = rw e (stretch-of y k hk full (f .stretch .few) (f .stretch .aimed));
+        stretch = stretch-of y k hk r₁ e full (f .stretch .few) (f .stretch .aimed);
         buffer = ap (λ (p : Process). p .buffer) back ∙ f .buffer;
         rest = ap (λ (p : Process). flushing p (drop (i + 1) b)) back ∙ (flush-one x (x .buffer) b i l (f .buffer) ∙ f .rest);
       }
