@@ -7,4 +7,4 @@ pub mod Pigeonhole
 pub mod Rows
 pub mod RowParts
 pub mod Moves
-pub mod Turns
+pub mod Tested

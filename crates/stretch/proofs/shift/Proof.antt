@@ -46,10 +46,10 @@ slice-write-buffer-2 : tie.Need-slice-write-buffer-2 Inv-loop μ-loop
 slice-write-buffer-2 c = search needs
 
 slice-write-buffer-3 : tie.Need-slice-write-buffer-3 Inv-loop μ-loop
-slice-write-buffer-3 c = search needs
+slice-write-buffer-3 c = simp length-set (omega arith)
 
 slice-write-buffer-4 : tie.Need-slice-write-buffer-4 Inv-loop μ-loop
-slice-write-buffer-4 c = search needs
+slice-write-buffer-4 c = simp length-set (omega arith)
 
 same-length : tie.Need-same-length Inv-loop μ-loop
 same-length c = simp length-set (omega arith)

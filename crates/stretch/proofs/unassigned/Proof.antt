@@ -5,7 +5,7 @@ use mathlib.Core.Path.{refl, sym, ap}
 use native.Mathlib.Omega.{arith}
 use lib.Dec.{eqb}
 use borrow.Author.Needs.{needs}
-use Rattle.lists.proofs.Turns.{Tested, tested-none, tested-more, tested-all}
+use Rattle.lists.proofs.Tested.{Tested, tested-none, tested-more, tested-all}
 use Rattle.model.specs.State.{emptyHazard}
 use Rattle.layout.specs.Encode.{processAt}
 use Rattle.stretch.proofs.Words.{hazard-word, hazards-length}

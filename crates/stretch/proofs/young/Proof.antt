@@ -4,7 +4,7 @@ use native.Mathlib.Omega.{arith}
 use lib.ListN.{length}
 use lib.Dec.{ltb}
 use borrow.Author.Needs.{needs}
-use Rattle.lists.proofs.Turns.{Tested, tested-none, tested-more, tested-all}
+use Rattle.lists.proofs.Tested.{Tested, tested-none, tested-more, tested-all}
 use Rattle.layout.specs.Encode.{processAt}
 use Rattle.stretch.specs.Stretch.{noStore}
 use Rattle.stretch.proofs.young.Statement.{statement}
