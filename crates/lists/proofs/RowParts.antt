@@ -1,14 +1,21 @@
--- A part of a row written, a word of a row read, rows one after the other, and a part of a list put back. Assumes nothing.
+-- Words written one after the other into a list and into a row, a word of a row read, rows appended, a list with zeros behind it, and a
+-- part of a list lent and put back. Assumes nothing.
 use Prim.Native.Nat.{ℕ, zero, suc, _+_, _*_, _≤_, _<_}
 use mathlib.Core.List.{List, [], _∷_, _++_, append-assoc}
 use mathlib.Core.Path.{_≡_, refl, ap, _∙_}
 use native.Mathlib.Omega.{arith}
-use native.Mathlib.Nat.{zero-mul, suc-mul, zero-add}
-use lib.ListN.{length, take, drop, getD, set, length-set, length-take, length-drop}
+use native.Mathlib.Nat.{zero-mul, suc-mul, zero-add, add-suc}
+use lib.ListN.{length, take, drop, getD, set, replicate, length-set, length-take, length-drop}
+use lib.ListN.{replicate-append-replicate}
 use lib.Seq.{set-append-left, getD-take, getD-drop, take-at, drop-at, sets}
 use borrow.Rule.Slice.PartMut.{putMid}
 use Rattle.lists.specs.Rows.{rows, unrows, Codec}
-use Rattle.lists.proofs.Rows.{Wide, below, sets-append-add, unrows-getD}
+use Rattle.lists.proofs.Rows.{Wide, below, set-append-add, unrows-getD}
+
+pub sets-append-add : (vs xs ys : List ℕ) (n : ℕ) → sets (xs ++ ys) (length xs + n) vs ≡ xs ++ sets ys n vs
+sets-append-add [] xs ys n = refl
+sets-append-add (v ∷ vs) xs ys n =
+    rw (set-append-add xs ys n v, ← add-suc (length xs) n) (sets-append-add vs xs (set ys n v) (suc n))
 
 pub sets-append-left : (vs xs ys : List ℕ) (i : ℕ) → i + length vs ≤ length xs → sets (xs ++ ys) i vs ≡ sets xs i vs ++ ys
 sets-append-left [] xs ys i h = refl
@@ -27,9 +34,9 @@ module _ {X : Type 0} (put : X → List ℕ) (w : ℕ) (x₀ : X) where
       let s : suc i * w + j ≡ length (put x) + (i * w + j) = omega (arith, suc-mul i w, h 0 (omega arith)) in
       rw (s, sets-append-add vs (put x) (rows put xs) (i * w + j), rows-part xs i j vs y (λ n b. h (suc n) (omega arith)) (omega arith) m e)
 
-  pub rows-append : (xs ys : List X) → rows put (xs ++ ys) ≡ rows put xs ++ rows put ys
-  rows-append [] ys = refl
-  rows-append (x ∷ xs) ys = rw (rows-append xs ys, append-assoc)
+pub rows-append : {X : Type 0} (put : X → List ℕ) (xs ys : List X) → rows put (xs ++ ys) ≡ rows put xs ++ rows put ys
+rows-append put [] ys = refl
+rows-append put (x ∷ xs) ys = rw (rows-append put xs ys, append-assoc)
 
 -- word j of the i-th of n rows
 pub unrows-word : {X : Type 0} {w : ℕ} (c : Codec X w) (x₀ : X) (n i j d : ℕ) (ws : List ℕ) → i < n → n * w ≤ length ws → j < w
@@ -39,6 +46,10 @@ unrows-word {w = w} c x₀ n i j d ws l m u =
     let k : length (take w q) ≡ w = simp (length-take, length-drop) (omega (arith, below i n w l)) in
     ap (λ x. getD (c .put x) j d) (unrows-getD (c .get) w x₀ n i ws l)
     ∙ (ap (λ (r : List ℕ). getD r j d) (c .forth (take w q) k) ∙ (getD-take w q j d u ∙ getD-drop (i * w) ws j d))
+
+-- more zeros behind a list that ends in zeros
+pub zeros-more : (q : List ℕ) (m j n : ℕ) → m + j ≡ n → (q ++ replicate m 0) ++ replicate j 0 ≡ q ++ replicate n 0
+zeros-more q m j n e = rw (append-assoc, replicate-append-replicate, e)
 
 -- the middle list of three lent, and another given back
 module _ (a w : ℕ) (p t z : List ℕ) (e : length p ≡ a) (f : length t ≡ w) where

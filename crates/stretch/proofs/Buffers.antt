@@ -1,22 +1,22 @@
 -- The buffer of a stretch lent and given back: the oldest store drained, all stores flushed. Assumes nothing.
-use Prim.Native.Nat.{ℕ, suc, _+_, _*_, _-_, _<_, _≤_}
-use mathlib.Core.List.{List, [], _∷_, _++_, append-assoc, append-nil}
+use Prim.Native.Nat.{ℕ, _+_, _*_, _-_, _<_, _≤_}
+use mathlib.Core.List.{List, [], _∷_, _++_, append-nil}
 use mathlib.Core.Logic.{_≢_}
-use mathlib.Core.Path.{_≡_, refl, sym, ap, ap₂, subst, _∙_}
+use mathlib.Core.Path.{_≡_, refl, sym, ap, ap₂, _∙_}
 use native.Mathlib.Omega.{arith}
 use native.Mathlib.Numerals.{add-one}
-use lib.ListN.{length, take, drop, getD, set, replicate, length-drop, length-set, length-replicate, replicate-append-replicate}
+use lib.ListN.{length, take, drop, getD, set, replicate, length-drop, length-set}
 use lib.Seq.{drop-cons, drop-length}
 use borrow.Rule.Slice.PartMut.{putMid}
 use Rattle.lists.specs.Rows.{rows}
-use Rattle.lists.specs.Tests.{All}
-use Rattle.lists.proofs.RowParts.{lent-part, put-part}
+use Rattle.lists.proofs.RowParts.{zeros-more, lent-part, put-part}
 use Rattle.model.specs.State.{Pending, Process, withStores}
 use Rattle.model.specs.Hazards.{committing, drained, flushed}
 use Rattle.layout.specs.Shape.{word, pendingWords}
-use Rattle.layout.specs.Encode.{bufferWords, processWordsBy, processWords, processAt}
+use Rattle.layout.specs.Encode.{bufferWords, processWords, processAt}
 use Rattle.stretch.specs.Stretch.{Stretch, noStore, storeOf}
-use Rattle.stretch.proofs.Words.{front, front-buffer, width-front, width-buffer, width-stores, hazards-length, process-back, width-process, stretch-of}
+use Rattle.stretch.proofs.Words.{front, front-buffer, width-front, width-buffer, width-stores, hazards-length}
+use Rattle.stretch.proofs.Words.{process-back, width-process, stretch-of}
 
 -- the first words of a buffer, t, lent, with m stores said to be pending
 module _ (y : Process) (m a w : ℕ) (t z r : List ℕ) (eb : bufferWords (y .buffer) ≡ t ++ z) (ea : a ≡ 4 + 3 * length (y .hazards))
@@ -44,10 +44,7 @@ drained-is x (e ∷ b) h = refl
 buffer-less : (b : List Pending) → length b ≢ 0 → length b ≤ 8 → drop 3 (bufferWords b) ++ (0 ∷ 0 ∷ 0 ∷ []) ≡ bufferWords (drop 1 b)
 buffer-less [] h l = absurd (h refl)
 buffer-less (e ∷ b) h l =
-    let m : ℕ = 24 - length (e ∷ b) * 3 in
-    let n : m + 3 ≡ 24 - length b * 3 = omega arith in
-    append-assoc (rows pendingWords b) (replicate m 0) (0 ∷ 0 ∷ 0 ∷ [])
-    ∙ ap (λ (q : List ℕ). rows pendingWords b ++ q) (replicate-append-replicate m 3 0 ∙ ap (λ (i : ℕ). replicate i 0) n)
+    zeros-more (rows pendingWords b) (24 - length (e ∷ b) * 3) 3 (24 - length b * 3) (omega arith)
 
 module _ (k : ℕ) (r : List ℕ) (s : Stretch k r) where
   pub drains : (r₁ r₂ ys : List ℕ) → length (processAt k r .buffer) ≢ 0
@@ -77,22 +74,22 @@ module _ (k : ℕ) (r : List ℕ) (s : Stretch k r) where
 -- ---- all stores
 
 -- the stores b of x flushed
-abbrev flushing : Process → List Pending → Process
-flushing x b = flushed (withStores x b (x .hazards)) b
+abbrev flushAll : Process → List Pending → Process
+flushAll x b = flushed (withStores x b (x .hazards)) b
 
 -- after i turns over the stores of r₀ the words are r: what is left to flush makes of r what all makes of r₀
 pub record Flushing (k : ℕ) (r₀ r : List ℕ) (i : ℕ) : Type 0 where
   pub stretch : Stretch k r
   pub buffer : processAt k r .buffer ≡ processAt k r₀ .buffer
-  pub rest : flushing (processAt k r) (drop i (processAt k r₀ .buffer)) ≡ flushed (processAt k r₀) (processAt k r₀ .buffer)
+  pub rest : flushAll (processAt k r) (drop i (processAt k r₀ .buffer)) ≡ flushed (processAt k r₀) (processAt k r₀ .buffer)
 
 pub flush-starts : (k : ℕ) (r : List ℕ) → Stretch k r → Flushing k r r 0
 flush-starts k r s = record { stretch = s; buffer = refl; rest = refl }
 
 flush-one : (x : Process) (b c : List Pending) (i : ℕ) → i < length c → b ≡ c
-    → flushing (committing x (getD b i noStore) b) (drop (i + 1) c) ≡ flushing x (drop i c)
+    → flushAll (committing x (getD b i noStore) b) (drop (i + 1) c) ≡ flushAll x (drop i c)
 flush-one x b c i l e =
-    rw (add-one, e) (ap (λ (d : List Pending). flushing x d) (sym (drop-cons c i noStore l)))
+    rw (add-one, e) (ap (λ (d : List Pending). flushAll x d) (sym (drop-cons c i noStore l)))
 
 module _ (k i : ℕ) (r₀ r : List ℕ) (f : Flushing k r₀ r i) where
   pub flush-turn : (r₁ : List ℕ) → i < length (processAt k r₀ .buffer)
@@ -105,9 +102,9 @@ module _ (k i : ℕ) (r₀ r : List ℕ) (f : Flushing k r₀ r i) where
       let full : length (x .buffer) ≤ 8 = omega (arith, f .stretch .stores, f .stretch .room) in
       let back : processAt k r₁ ≡ y = ap (λ (q : List ℕ). processAt k q) e ∙ process-back y k hk in
       record {
-        stretch = rw e (stretch-of y k hk full (f .stretch .few) (f .stretch .aimed));
+        stretch = stretch-of y k hk r₁ e full (f .stretch .few) (f .stretch .aimed);
         buffer = ap (λ (p : Process). p .buffer) back ∙ f .buffer;
-        rest = ap (λ (p : Process). flushing p (drop (i + 1) b)) back ∙ (flush-one x (x .buffer) b i l (f .buffer) ∙ f .rest);
+        rest = ap (λ (p : Process). flushAll p (drop (i + 1) b)) back ∙ (flush-one x (x .buffer) b i l (f .buffer) ∙ f .rest);
       }
 
   -- the words of the stores, and how many there are, become 0
@@ -125,10 +122,10 @@ module _ (k i : ℕ) (r₀ r : List ℕ) (f : Flushing k r₀ r i) where
       let et : length t ≡ w = omega (arith, width-stores (y .buffer), ap length (f .buffer)) in
       let er : r₁ ≡ set (processWords y) 3 0 = e₁ ∙ ap (λ (q : List ℕ). set q 3 0) (f .stretch .whole) in
       let lent : take w (drop a r₁) ≡ t = buffer-lent y 0 a w t (replicate m 0) r₁ refl ea et er in
+      let zeros : ys ≡ replicate (length t) 0 = ey ∙ ap (λ (q : List ℕ). replicate (length q) 0) lent in
       let none : length t + m ≡ 24 = omega (arith, width-stores (y .buffer), f .stretch .stores, f .stretch .room) in
       let cleared : ys ++ replicate m 0 ≡ replicate 24 0 =
-      ap (λ (q : List ℕ). q ++ replicate m 0) (ey ∙ ap (λ (q : List ℕ). replicate (length q) 0) lent)
-      ∙ (replicate-append-replicate (length t) m 0 ∙ ap (λ (j : ℕ). replicate j 0) none) in
+      rw zeros (zeros-more [] (length t) m 24 none) in
       let done : drop i b ≡ [] = ap (λ (j : ℕ). drop j b) el ∙ drop-length b in
       buffer-back y 0 a w t (replicate m 0) r₁ refl ea et er [] ys refl cleared
-      ∙ ap processWords (ap (λ (d : List Pending). flushing y d) (sym done) ∙ f .rest)
+      ∙ ap processWords (ap (λ (d : List Pending). flushAll y d) (sym done) ∙ f .rest)

@@ -1,4 +1,4 @@
--- What the writes of a function make of a stretch. Assumes nothing.
+-- What the writes of `set_lead`, `validate`, `assign` and `commit` make of a stretch. Assumes nothing.
 use Prim.Native.Nat.{ℕ, suc, _+_, _*_, _<_, _≤_}
 use mathlib.Core.List.{List, [], _∷_}
 use mathlib.Core.Path.{_≡_, refl, sym, ap, ap₂, subst, _∙_}
@@ -19,7 +19,8 @@ module _ (k : ℕ) (r : List ℕ) (s : Stretch k r) where
   unfolding processWordsBy
   lead-written e c p = ap (λ (ws : List ℕ). sets ws 0 (e ∷ c ∷ p ∷ [])) (s .whole)
 
-  pub hazard-written : (h j a : ℕ) (vs : List ℕ) (y : Hazard) → h < k → j + length vs ≤ 3 → a ≡ 4 + 3 * h + j
+  -- the words vs of hazard h, from its word j on
+  hazard-written : (h j a : ℕ) (vs : List ℕ) (y : Hazard) → h < k → j + length vs ≤ 3 → a ≡ 4 + 3 * h + j
       → sets (hazardWords (hazardOf (processAt k r) h)) j vs ≡ hazardWords y
       → sets r a vs ≡ processWords (withStores (processAt k r) (processAt k r .buffer) (setHazard (processAt k r) h y))
   hazard-written h j a vs y l m e f =
@@ -48,12 +49,16 @@ module _ (k : ℕ) (r : List ℕ) (s : Stretch k r) where
       ∙ store-added z (pending h v t) b (omega (arith, s .stores)) (omega (arith, s .stores)))
 
   module _ (e : ℕ) (l : e < length (processAt k r .buffer)) where
+    -- word j of pending store e
     store-at : (j a : ℕ) → j < 3 → a ≡ 4 + 3 * k + 3 * e + j → word (pendingWords (storeOf (processAt k r) e)) j ≡ word r a
     store-at j a m f = store-word k r e j a (omega (arith, s .long, s .room)) (omega (arith, s .stores)) m f
 
+    low : storeOf (processAt k r) e .hazard < k
+    low = all-at (λ p. p .hazard < k) (processAt k r .buffer) e noStore (s .aimed) l
+
+    -- the store names one of the k hazards
     pub aims : (a : ℕ) → a ≡ 4 + 3 * k + 3 * e → word r a < k
-    aims a f =
-        subst (λ (n : ℕ). n < k) (store-at 0 a (omega arith) (omega arith)) (all-at (λ q. q .hazard < k) (processAt k r .buffer) e noStore (s .aimed) l)
+    aims a f = subst (λ (n : ℕ). n < k) (store-at 0 a (omega arith) (omega arith)) low
 
     pub committed : (h a b : ℕ) → a ≡ 4 + 3 * k + 3 * e → h ≡ word r a → b ≡ a + 1
         → set r (4 + 3 * h) (word r b) ≡ processWords (committing (processAt k r) (storeOf (processAt k r) e) (processAt k r .buffer))
@@ -61,7 +66,6 @@ module _ (k : ℕ) (r : List ℕ) (s : Stretch k r) where
         let x : Process = processAt k r in
         let p : Pending = storeOf x e in
         let hazard : h ≡ p .hazard = g ∙ sym (store-at 0 a (omega arith) (omega arith)) in
-        let low : p .hazard < k = all-at (λ u. u .hazard < k) (x .buffer) e noStore (s .aimed) l in
         ap₂ (λ (i v : ℕ). set r (4 + 3 * i) v) hazard (sym (store-at 1 b (omega arith) (omega arith)))
         ∙ hazard-written (p .hazard) 0 (4 + 3 * p .hazard) (p .node ∷ []) _ low (omega arith) (omega arith) refl
 

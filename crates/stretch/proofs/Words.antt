@@ -1,7 +1,7 @@
 -- A process as words and back, and a word of a stretch as a field of its process. Assumes nothing.
-use Prim.Native.Nat.{ℕ, _+_, _*_, _-_, _<_, _≤_}
+use Prim.Native.Nat.{ℕ, _+_, _*_, _<_, _≤_}
 use mathlib.Core.List.{List, _++_}
-use mathlib.Core.Path.{_≡_, refl, sym, ap, subst, _∙_}
+use mathlib.Core.Path.{_≡_, refl, sym, ap, _∙_}
 use native.Mathlib.Omega.{arith}
 use lib.ListN.{length, drop, length-append, length-replicate, length-drop}
 use lib.Seq.{drop-at, drop-drop, getD-drop}
@@ -68,15 +68,17 @@ module _ (x : Process) (k : ℕ) (hk : length (x .hazards) ≡ k) where
       rw front-buffer
       (omega (arith, length-append (front n x) (bufferWords (x .buffer)), width-front n x, width-buffer (x .buffer) room))
 
-  pub stretch-of : length (x .buffer) ≤ 8 → (1 ≤ k) × (k ≤ 8) → All (λ e. e .hazard < k) (x .buffer) → Stretch k (processWords x)
-  stretch-of room few aimed =
+  pub stretch-of : (r : List ℕ) → r ≡ processWords x → length (x .buffer) ≤ 8 → (1 ≤ k) × (k ≤ 8) → All (λ e. e .hazard < k) (x .buffer)
+      → Stretch k r
+  stretch-of r e room few aimed =
+      let back : processAt k r ≡ x = ap (λ (q : List ℕ). processAt k q) e ∙ process-back in
       record {
         few = few;
-        long = width-process room;
-        stores = stores-length k (processWords x);
-        room = subst (λ (n : ℕ). n ≤ 8) (ap (λ (y : Process). length (y .buffer)) (sym process-back) ∙ stores-length k (processWords x)) room;
-        whole = ap processWords (sym process-back);
-        aimed = rw process-back aimed;
+        long = ap length e ∙ width-process room;
+        stores = stores-length k r;
+        room = omega (arith, stores-length k r, ap (λ (y : Process). length (y .buffer)) back);
+        whole = e ∙ ap processWords (sym back);
+        aimed = rw back aimed;
       }
 
 -- ---- a word of a stretch

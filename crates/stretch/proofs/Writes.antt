@@ -1,18 +1,15 @@
--- Words of a process written: some of a hazard, a store after the last, and the buffer. Assumes nothing.
+-- Words of a process written: some of a hazard, and a store after the last. Assumes nothing.
 use Prim.Native.Nat.{ℕ, suc, _+_, _*_, _-_, _<_, _≤_}
-use mathlib.Core.List.{List, [], _∷_, _++_, append-assoc, append-nil}
+use mathlib.Core.List.{List, [], _∷_, _++_, append-assoc}
 use mathlib.Core.Path.{_≡_, refl, sym, ap, ap₂, _∙_}
 use native.Mathlib.Omega.{arith}
-use native.Mathlib.Nat.{add-zero}
 use lib.ListN.{length, set, replicate, length-append}
 use lib.Seq.{sets}
 use Rattle.lists.specs.Rows.{rows}
-use Rattle.lists.proofs.Rows.{sets-append-add}
-use Rattle.lists.proofs.RowParts.{sets-append-left, rows-part, rows-append}
+use Rattle.lists.proofs.RowParts.{sets-append-add, sets-append-left, rows-part, rows-append}
 use Rattle.model.specs.State.{Pending, Hazard, Process, emptyHazard, hazardOf, setHazard, withStores}
 use Rattle.layout.specs.Shape.{leadOf, leadWords, hazardWords, pendingWords}
 use Rattle.layout.specs.Encode.{bufferWords, processWordsBy, processWords}
-use Rattle.stretch.specs.Stretch.{noStore}
 use Rattle.stretch.proofs.Words.{front, front-buffer, width-front, width-hazards, width-stores}
 
 -- the words vs of hazard h, from its word j on
@@ -29,7 +26,7 @@ hazard-sets x h j a vs y l m e f =
     (sets-append-left vs hs bs (h * 3 + j) inside
     ∙ ap (λ (q : List ℕ). q ++ bs) (rows-part hazardWords 3 emptyHazard (x .hazards) h j vs y (λ i b. refl) l m f))
 
--- a store put after the last
+-- a store put after the last: in the buffer, and in the process
 buffer-more : (b : List Pending) (e : Pending) → length b < 8 → sets (bufferWords b) (length b * 3) (pendingWords e) ≡ bufferWords (b ++ (e ∷ []))
 buffer-more b e l =
     let bs : List ℕ = rows pendingWords b in
@@ -40,7 +37,7 @@ buffer-more b e l =
     ap₂ (λ (i f : ℕ). sets (bs ++ replicate f 0) i (pendingWords e)) at free
     ∙ (sets-append-add (pendingWords e) bs (replicate (suc (suc (suc m))) 0) 0
     ∙ (sym (append-assoc bs (pendingWords e) (replicate m 0))
-    ∙ ap₂ (λ (q : List ℕ) (f : ℕ). q ++ replicate f 0) (sym (rows-append pendingWords 3 noStore b (e ∷ []))) left))
+    ∙ ap₂ (λ (q : List ℕ) (f : ℕ). q ++ replicate f 0) (sym (rows-append pendingWords b (e ∷ []))) left))
 
 pub store-added : (x : Process) (e : Pending) (a : ℕ) → length (x .buffer) < 8 → a ≡ 4 + 3 * length (x .hazards) + 3 * length (x .buffer)
     → sets (set (processWords x) 3 (length (x .buffer) + 1)) a (pendingWords e) ≡ processWords (withStores x (x .buffer ++ (e ∷ [])) (x .hazards))

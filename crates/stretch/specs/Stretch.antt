@@ -17,6 +17,7 @@ pub record Stretch (k : ℕ) (r : List ℕ) : Type 0 where
   pub whole : r ≡ processWords (processAt k r)
   pub aimed : All (λ e. e .hazard < k) (processAt k r .buffer)
 
+-- what is read past the last store
 abbrev pub noStore : Pending
 noStore = record { hazard = 0; node = 0; time = 0 }
 

@@ -1,4 +1,5 @@
-// A process's own stretch of the words, lent as a slice of exactly its 28 + 3K words: its lead, its hazards and its store buffer.
+// A process's own stretch of the words, lent as a slice of exactly its 28 + 3K words, so that no function here can write another's: 4 words
+// of lead, 3 a hazard, and 8 places of 3 words for pending stores. k is the number of hazards, in some functions for the contract alone.
 use layout::Hazard;
 use layout::HazardId;
 use layout::Lead;
@@ -32,7 +33,7 @@ pub fn lead(row: &[u32]) -> Lead
 // Writes the words before the hazards, but for how many stores are pending.
 pub fn set_lead(row: &mut [u32], k: usize, epoch: u32, calls: u32, presence: u32)
     requires { ⌜ Stretch k (now row) ⌝ }
-    ensures { λ _. ⌜ now (row .exit) ≡ processWords (withWords (processAt k (now (row .entry))) epoch calls presence) ⌝ }
+    ensures { λ _. ⌜ (let x = processAt k (now (row .entry)) in now (row .exit) ≡ processWords (withWords x epoch calls presence)) ⌝ }
 {
     row[0] = epoch;
     row[1] = calls;
@@ -54,9 +55,8 @@ pub fn hazard(row: &[u32], k: usize, h: HazardId) -> Hazard
 
 // Assigns a node to hazard h, not validated, and adds the store of it to the buffer.
 pub fn assign(row: &mut [u32], k: usize, h: HazardId, node: u32, time: u32)
-    requires { ⌜ Stretch k (now row) ⌝ }
-    requires { ⌜ (h .0 < k) × (length (processAt k (now row) .buffer) < 8) ⌝ }
-    ensures { λ _. ⌜ now (row .exit) ≡ processWords (assigning (processAt k (now (row .entry))) (h .0) node time) ⌝ }
+    requires { ⌜ Stretch k (now row) × (h .0 < k) × (length (processAt k (now row) .buffer) < 8) ⌝ }
+    ensures { λ _. ⌜ (let x = processAt k (now (row .entry)) in now (row .exit) ≡ processWords (assigning x (h .0) node time)) ⌝ }
 {
     let stores = row[3];
     let at = 4 + 3 * layout::wide(h.0);
@@ -72,7 +72,7 @@ pub fn assign(row: &mut [u32], k: usize, h: HazardId, node: u32, time: u32)
 // Validates hazard h.
 pub fn validate(row: &mut [u32], k: usize, h: HazardId)
     requires { ⌜ Stretch k (now row) × (h .0 < k) ⌝ }
-    ensures { λ _. ⌜ now (row .exit) ≡ processWords (validating (processAt k (now (row .entry))) (h .0)) ⌝ }
+    ensures { λ _. ⌜ (let x = processAt k (now (row .entry)) in now (row .exit) ≡ processWords (validating x (h .0))) ⌝ }
 {
     row[4 + 3 * layout::wide(h.0) + 2] = 1;
 }
@@ -80,7 +80,7 @@ pub fn validate(row: &mut [u32], k: usize, h: HazardId)
 // Makes the node of pending store e visible in its hazard; the store stays in the buffer.
 fn commit(row: &mut [u32], k: usize, e: usize)
     requires { ⌜ Stretch k (now row) × (e < length (processAt k (now row) .buffer)) ⌝ }
-    ensures { λ _. ⌜ now (row .exit) ≡ processWords (committing (processAt k (now (row .entry))) (storeOf (processAt k (now (row .entry))) e) (processAt k (now (row .entry)) .buffer)) ⌝ }
+    ensures { λ _. ⌜ (let x = processAt k (now (row .entry)) in now (row .exit) ≡ processWords (committing x (storeOf x e) (x .buffer))) ⌝ }
 {
     let at = 4 + 3 * k + 3 * e;
     let h = layout::wide(row[at]);
@@ -105,7 +105,7 @@ fn shift(buffer: &mut [u32])
 // Commits the oldest pending store.
 pub fn drain(row: &mut [u32], k: usize)
     requires { ⌜ Stretch k (now row) × (length (processAt k (now row) .buffer) ≢ 0) ⌝ }
-    ensures { λ _. ⌜ now (row .exit) ≡ processWords (drained (processAt k (now (row .entry))) (processAt k (now (row .entry)) .buffer)) ⌝ }
+    ensures { λ _. ⌜ (let x = processAt k (now (row .entry)) in now (row .exit) ≡ processWords (drained x (x .buffer))) ⌝ }
 {
     let stores = row[3];
     commit(row, k, 0);
@@ -127,7 +127,7 @@ fn clear(words: &mut [u32])
 // Commits all pending stores, the oldest first.
 pub fn flush(row: &mut [u32], k: usize)
     requires { ⌜ Stretch k (now row) ⌝ }
-    ensures { λ _. ⌜ now (row .exit) ≡ processWords (flushed (processAt k (now (row .entry))) (processAt k (now (row .entry)) .buffer)) ⌝ }
+    ensures { λ _. ⌜ (let x = processAt k (now (row .entry)) in now (row .exit) ≡ processWords (flushed x (x .buffer))) ⌝ }
 {
     let stores = layout::wide(row[3]);
     let mut e = 0;
@@ -167,7 +167,7 @@ pub fn young(row: &[u32], k: usize, clock: u32, delay: u32) -> bool
 
 // Has no hazard a node assigned?
 pub fn unassigned(row: &[u32], k: usize) -> bool
-    requires { ⌜ Stretch k (now row) ⌝ }
+    requires { ⌜ 4 + 3 * k ≤ length (now row) ⌝ }
     ensures { λ r. ⌜ r ≡ unassigned (processAt k (now (row .entry))) ⌝ }
 {
     let mut ok = true;

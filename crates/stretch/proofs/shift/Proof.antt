@@ -1,14 +1,13 @@
+-- `shift` meets its contract. The invariant: the first j words have moved. The measure: the words that are left. Assumes nothing.
 use Prim.Native.Nat.{_-_, _≤_}
 use mathlib.Core.Path.{_≡_, refl}
 use mathlib.Core.List.{[], _∷_}
-use lib.ListN.{length, length-set}
-use Rattle.lists.proofs.Moves.{moved, moved-none, moved-more, moved-end}
 use native.Mathlib.Omega.{arith}
+use lib.ListN.{length, length-set}
 use borrow.Author.Needs.{needs}
+use Rattle.lists.proofs.Moves.{moved, moved-none, moved-more, moved-end}
 use Rattle.stretch.proofs.shift.Statement.{statement}
 use Rattle.stretch.proofs.shift.Tie as tie
-use Rattle.stretch.proofs.shift.Reads as reads
-use Rattle.stretch.proofs.shift.Lts as lts
 
 abbrev Inv-loop : tie.InvT-loop
 Inv-loop buffer₀ j₀ buffer j = (j ≤ 21) × (length buffer ≡ 24) × (buffer ≡ moved 3 j buffer₀)
@@ -16,59 +15,45 @@ Inv-loop buffer₀ j₀ buffer j = (j ≤ 21) × (length buffer ≡ 24) × (buff
 abbrev μ-loop : tie.MeasureT-loop
 μ-loop buffer₀ j₀ buffer j = 21 - j
 
--- src/lib.rt:94:5
 loop-holds : tie.Need-loop-holds Inv-loop μ-loop
 loop-holds c = (omega arith, c .pre, moved-none 3 _)
 
--- src/lib.rt:95:28
 add-buffer : tie.Need-add-buffer Inv-loop μ-loop
 add-buffer c = search needs
 
--- src/lib.rt:95:21
 mul-buffer : tie.Need-mul-buffer Inv-loop μ-loop
 mul-buffer c = search needs
 
--- src/lib.rt:95:21
 slice-read-buffer : tie.Need-slice-read-buffer Inv-loop μ-loop
 slice-read-buffer c = search needs
 
--- src/lib.rt:95:9
 mul-buffer-2 : tie.Need-mul-buffer-2 Inv-loop μ-loop
 mul-buffer-2 c = search needs
 
--- src/lib.rt:95:9
 slice-write-buffer : tie.Need-slice-write-buffer Inv-loop μ-loop
 slice-write-buffer c = search needs
 
--- src/lib.rt:96:9
 add-j : tie.Need-add-j Inv-loop μ-loop
 add-j c = search needs
 
--- src/lib.rt:94:5
 loop-less : tie.Need-loop-less Inv-loop μ-loop
 loop-less c = search needs
 
--- src/lib.rt:94:5
 loop-again : tie.Need-loop-again Inv-loop μ-loop
 loop-again c = (omega arith, simp length-set (omega arith), rw (c .before .before .loop .inv .2) (moved-more 3 _ _ (omega arith)))
 
--- src/lib.rt:98:5
 slice-write-buffer-2 : tie.Need-slice-write-buffer-2 Inv-loop μ-loop
 slice-write-buffer-2 c = search needs
 
--- src/lib.rt:99:5
 slice-write-buffer-3 : tie.Need-slice-write-buffer-3 Inv-loop μ-loop
-slice-write-buffer-3 c = search needs
+slice-write-buffer-3 c = simp length-set (omega arith)
 
--- src/lib.rt:100:5
 slice-write-buffer-4 : tie.Need-slice-write-buffer-4 Inv-loop μ-loop
-slice-write-buffer-4 c = search needs
+slice-write-buffer-4 c = simp length-set (omega arith)
 
--- src/lib.rt:89:1
 same-length : tie.Need-same-length Inv-loop μ-loop
 same-length c = simp length-set (omega arith)
 
--- src/lib.rt:89:1
 returns : tie.Need-returns Inv-loop μ-loop
 returns c =
     let e : c .before .loop .j ≡ 21 = omega arith in

@@ -1,19 +1,16 @@
-use Prim.Native.Nat.{ℕ, _-_, _≤_, _+_, _*_}
-use mathlib.Core.Bool.{Bool, _&&_}
-use mathlib.Core.Path.{_≡_, refl, sym, ap}
-use lib.ListN.{drop}
+-- `unassigned` meets its contract. The invariant: ok says whether the first h hazards are unassigned. The measure: the hazards that are left.
+-- Assumes nothing.
+use Prim.Native.Nat.{ℕ, _-_, _≤_}
+use mathlib.Core.Path.{refl, sym, ap}
+use native.Mathlib.Omega.{arith}
 use lib.Dec.{eqb}
-use Rattle.lists.specs.Tests.{every}
+use borrow.Author.Needs.{needs}
 use Rattle.lists.proofs.Tested.{Tested, tested-none, tested-more, tested-all}
-use Rattle.model.specs.State.{Hazard, emptyHazard}
+use Rattle.model.specs.State.{emptyHazard}
 use Rattle.layout.specs.Encode.{processAt}
 use Rattle.stretch.proofs.Words.{hazard-word, hazards-length}
-use native.Mathlib.Omega.{arith}
-use borrow.Author.Needs.{needs}
 use Rattle.stretch.proofs.unassigned.Statement.{statement}
 use Rattle.stretch.proofs.unassigned.Tie as tie
-use Rattle.stretch.proofs.unassigned.Reads as reads
-use Rattle.stretch.proofs.unassigned.Lts as lts
 
 abbrev Inv-loop : tie.InvT-loop
 Inv-loop row k ok₀ h₀ ok h =
@@ -22,39 +19,30 @@ Inv-loop row k ok₀ h₀ ok h =
 abbrev μ-loop : tie.MeasureT-loop
 μ-loop row k ok₀ h₀ ok h = k - h
 
--- src/lib.rt:172:5
 loop-holds : tie.Need-loop-holds Inv-loop μ-loop
 loop-holds c = (omega arith, tested-none)
 
--- src/lib.rt:173:28
 mul-ok : tie.Need-mul-ok Inv-loop μ-loop
 mul-ok c = search needs
 
--- src/lib.rt:173:24
 add-ok : tie.Need-add-ok Inv-loop μ-loop
 add-ok c = search needs
 
--- src/lib.rt:173:24
 add-ok-2 : tie.Need-add-ok-2 Inv-loop μ-loop
 add-ok-2 c = search needs
 
--- src/lib.rt:173:20
 mul-ok-2 : tie.Need-mul-ok-2 Inv-loop μ-loop
 mul-ok-2 c = search needs
 
--- src/lib.rt:173:20
 shared-slice-read-ok : tie.Need-shared-slice-read-ok Inv-loop μ-loop
 shared-slice-read-ok c = search needs
 
--- src/lib.rt:174:9
 add-h : tie.Need-add-h Inv-loop μ-loop
 add-h c = search needs
 
--- src/lib.rt:172:5
 loop-less : tie.Need-loop-less Inv-loop μ-loop
 loop-less c = search needs
 
--- src/lib.rt:172:5
 loop-again : tie.Need-loop-again Inv-loop μ-loop
 loop-again c = (
   omega arith,
@@ -63,7 +51,6 @@ loop-again c = (
       (ap (λ (n : ℕ). eqb n 0) (sym (hazard-word _ _ _ 1 _ (omega arith) (omega arith) (omega arith) refl))),
 )
 
--- src/lib.rt:166:1
 returns : tie.Need-returns Inv-loop μ-loop
 returns c = tested-all (c .before .loop .inv .1) (omega (arith, hazards-length (c .before .before .args .k) (c .before .before .args .row .now)))
 
