@@ -51,9 +51,9 @@ module _ {ws : List ℕ} (s : Sound ws) (p k a e : ℕ) (l : p < word ws 0) (ek 
   pub lent-stretch : Stretch k (take (e - a) (drop a ws))
   unfolding x decodeBy
   lent-stretch =
-      rw row (stretch-of (processOf (decode ws) p) k width room (omega (arith, ek, s .sizes .hazards))
+      stretch-of (processOf (decode ws) p) k width _ row room (omega (arith, ek, s .sizes .hazards))
       (rw ek (all-map (PendingFits (decode ws .params) (decode ws .clock)) (λ e. e .hazard < word ws 1) (processOf (decode ws) p .buffer)
-      (λ _ f. f .hazard) (fits .stores .buffer))))
+      (λ _ f. f .hazard) (fits .stores .buffer)))
 
   -- the process that comes back is the domain's
   pub process-returned : (f : Process → Process) (r : List ℕ) → r ≡ processWords (f (processAt k (take (e - a) (drop a ws))))

@@ -42,7 +42,7 @@ part-assign-end : tie.Need-part-assign-end
 part-assign-end c = search needs
 
 assign-requires : tie.Need-assign-requires
-assign-requires c κs = (lent-stretch (c .before .before .before .before .before .before .before .pre .0 .0) _ _ _ _ (c .before .before .before .before .before .before .before .pre .0 .1) (c .before .before .before .before .wide .ensures .0) (c .before .process-at .ensures .0) refl, (rw (c .before .before .before .before .wide .ensures .0) (c .before .before .before .before .before .before .before .pre .0 .2), rw (lent-process (c .before .before .before .before .before .before .before .pre .0 .0) _ _ _ _ (c .before .before .before .before .before .before .before .pre .0 .1) (c .before .before .before .before .wide .ensures .0) (c .before .process-at .ensures .0) refl) (c .before .before .before .before .before .before .before .pre .1)))
+assign-requires c κs = (lent-stretch (c .before .before .before .before .before .before .before .pre .0 .0) _ _ _ _ (c .before .before .before .before .before .before .before .pre .0 .1) (c .before .before .before .before .wide .ensures .0) (c .before .process-at .ensures .0) refl, rw (c .before .before .before .before .wide .ensures .0) (c .before .before .before .before .before .before .before .pre .0 .2), rw (lent-process (c .before .before .before .before .before .before .before .pre .0 .0) _ _ _ _ (c .before .before .before .before .before .before .before .pre .0 .1) (c .before .before .before .before .wide .ensures .0) (c .before .process-at .ensures .0) refl) (c .before .before .before .before .before .before .before .pre .1))
 
 same-length : tie.Need-same-length
 same-length c = search needs

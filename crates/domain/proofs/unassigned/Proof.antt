@@ -1,7 +1,7 @@
 -- `domain::unassigned` meets its contract: the stretch lent holds the process. Assumes nothing.
 use mathlib.Core.Path.{_∙_, ap, refl}
 use Rattle.model.specs.Hazards.{unassigned}
-use Rattle.domain.proofs.Processes.{lent-process, lent-stretch}
+use Rattle.domain.proofs.Processes.{lent-process}
 use borrow.Author.Needs.{needs}
 use Rattle.domain.proofs.unassigned.Statement.{statement}
 use Rattle.domain.proofs.unassigned.Tie as tie
@@ -37,7 +37,7 @@ part-unassigned-end : tie.Need-part-unassigned-end
 part-unassigned-end c = search needs
 
 unassigned-requires : tie.Need-unassigned-requires
-unassigned-requires c κs = lent-stretch (c .before .before .before .before .before .pre .0) _ _ _ _ (c .before .before .before .before .before .pre .1) (c .before .before .wide .ensures .0) (c .before .process-at .ensures .0) refl
+unassigned-requires c κs = search needs
 
 returns : tie.Need-returns
 returns c = c .unassigned .ensures ∙ ap unassigned (lent-process (c .before .before .before .before .before .before .pre .0) _ _ _ _ (c .before .before .before .before .before .before .pre .1) (c .before .before .before .wide .ensures .0) (c .before .before .process-at .ensures .0) refl)
