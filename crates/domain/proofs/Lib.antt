@@ -2,3 +2,4 @@ pub mod Head
 pub mod Nodes
 pub mod Processes
 pub mod Assigned
+pub mod After

@@ -1,3 +1,7 @@
+-- `epochs::managing` meets its contract: by the branches of a manage that acts. Assumes nothing.
+use mathlib.Core.Path.{_∙_, sym}
+use borrow.Author.Tests.{not-true, not-false}
+use Rattle.epochs.proofs.Called.{fast, some-absent, sound-fast, process-fast, goes-back}
 use borrow.Author.Needs.{needs}
 use Rattle.epochs.proofs.managing.Statement.{statement}
 use Rattle.epochs.proofs.managing.Tie as tie
@@ -12,7 +16,7 @@ same-length : tie.Need-same-length
 same-length c = search needs
 
 returns : tie.Need-returns
-returns c = ?
+returns c = fast (c .before .before .before .before .before .before .before .before .pre .0) (c .before .before .before .before .before .before .before .before .args .p .0) _ (c .before .before .before .before .before .path .ensures) (c .before .before .before .before .if1 .taken) _ _ (c .before .before .quiescent .ensures)
 
 all-present-requires : tie.Need-all-present-requires
 all-present-requires c κs = search needs
@@ -21,19 +25,19 @@ same-length-2 : tie.Need-same-length-2
 same-length-2 c = search needs
 
 returns-2 : tie.Need-returns-2
-returns-2 c = ?
+returns-2 c = some-absent (c .before .before .before .before .before .before .before .pre .0) (c .before .before .before .before .before .before .before .args .p .0) _ (c .before .before .before .before .path .ensures) (c .before .before .before .if1 .left) (sym (c .before .all-present .ensures) ∙ not-true _ (c .if2 .taken))
 
 set-path-requires : tie.Need-set-path-requires
 set-path-requires c κs = search needs
 
 quiescent-requires-2 : tie.Need-quiescent-requires-2
-quiescent-requires-2 c κs = ?
+quiescent-requires-2 c κs = (sound-fast (c .before .before .before .before .before .before .before .before .before .before .before .before .pre .0) (c .before .before .before .before .before .before .before .before .before .before .before .before .args .p .0) _ (c .before .before .before .before .before .before .before .before .before .path .ensures) (c .before .before .before .before .before .before .before .before .if1 .left) _ (c .before .before .before .set-path .ensures), process-fast (c .before .before .before .before .before .before .before .before .before .before .before .before .pre .0) (c .before .before .before .before .before .before .before .before .before .before .before .before .args .p .0) _ (c .before .before .before .before .before .before .before .before .before .path .ensures) (c .before .before .before .before .before .before .before .before .if1 .left) _ (c .before .before .before .set-path .ensures) (c .before .before .before .before .before .before .before .before .before .before .before .before .pre .1))
 
 same-length-3 : tie.Need-same-length-3
 same-length-3 c = search needs
 
 returns-3 : tie.Need-returns-3
-returns-3 c = ?
+returns-3 c = goes-back (c .before .before .before .before .before .before .before .before .before .before .before .before .before .before .before .pre .0) (c .before .before .before .before .before .before .before .before .before .before .before .before .before .before .before .args .p .0) _ (c .before .before .before .before .before .before .before .before .before .before .before .before .path .ensures) (c .before .before .before .before .before .before .before .before .before .before .before .if1 .left) _ (c .before .before .before .before .before .before .set-path .ensures) (sym (c .before .before .before .before .before .before .before .before .before .all-present .ensures) ∙ not-false _ (c .before .before .before .before .before .before .before .before .if2 .left)) _ _ (c .before .before .quiescent2 .ensures)
 
 pub managing-spec : {M : Type 1} → statement M
 managing-spec =
