@@ -1,0 +1,3 @@
+pub mod Yes
+pub mod ByNumber
+pub mod Known
