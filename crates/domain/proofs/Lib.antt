@@ -1,3 +1,4 @@
 pub mod Head
 pub mod Nodes
 pub mod Processes
+pub mod Assigned

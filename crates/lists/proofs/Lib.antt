@@ -11,3 +11,4 @@ pub mod RowParts
 pub mod Moves
 pub mod Turns
 pub mod Tested
+pub mod Compares

@@ -1,13 +1,11 @@
 -- A loop that goes through a list once: a count and a sweep of the places it has passed, and a turn more. Assumes nothing.
-use Prim.Native.Nat.{ℕ, zero, suc, _+_, _-_, _<_}
+use Prim.Native.Nat.{ℕ, zero, suc, _+_, _<_}
 use mathlib.Core.Bool.{Bool, true, false, cond}
 use mathlib.Core.List.{List, [], _∷_, _++_}
 use mathlib.Core.Path.{_≡_, refl, sym, _∙_, ap, subst}
 use native.Mathlib.Omega.{arith}
 use native.Mathlib.Nat.{suc-add, add-suc, add-zero}
 use lib.ListN.{length, getD, set, take, drop}
-use lib.Dec.{ltb}
-use borrow.Author.Tests.{lt-ltb, le-ltb, ltb-true, ltb-false}
 use Rattle.lists.specs.Tests.{count, countFrom}
 use Rattle.lists.specs.Sweep.{sweepFrom}
 
@@ -57,11 +55,3 @@ module _ {A : Type 0} (f : ℕ → A → Bool) where
     swept-turn k (x ∷ xs) (suc i) d h =
         further (λ b. set (sweptTo k (suc i) (x ∷ xs)) (suc i) (cond b z (getD xs i d)) ≡ sweptTo k (suc (suc i)) (x ∷ xs)) k i (getD xs i d)
         (ap (λ (r : List A). cond (f k x) z x ∷ r) (swept-turn (suc k) xs i d (omega arith)))
-
--- a difference that is greater than t, without the difference
-pub ltb-sub : (t s c : ℕ) → ltb (t + s) c ≡ ltb t (c - s)
-ltb-sub t s c = go (ltb t (c - s)) refl
-  where
-    go : (b : Bool) → ltb t (c - s) ≡ b → ltb (t + s) c ≡ b
-    go true e = lt-ltb (t + s) c (omega (arith, ltb-true t (c - s) e))
-    go false e = le-ltb (t + s) c (omega (arith, ltb-false t (c - s) e))

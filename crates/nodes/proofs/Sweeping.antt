@@ -1,22 +1,21 @@
 -- A loop that frees the nodes that pass a test, and counts them: what holds at its head, where it starts, after a turn and where it ends;
 -- and the test of a node that is due. Assumes nothing.
-use Prim.Native.Nat.{ℕ, _+_, _≤_, _<_}
-use mathlib.Core.Bool.{Bool, false, not, _&&_, cond}
+use Prim.Native.Nat.{ℕ, _+_, _-_, _≤_, _<_}
+use mathlib.Core.Bool.{Bool, cond}
 use mathlib.Core.List.{List, append-nil}
-use mathlib.Core.Path.{_≡_, refl, ap, sym, _∙_}
+use mathlib.Core.Path.{_≡_, refl, ap, _∙_}
 use native.Mathlib.Omega.{arith}
 use native.Mathlib.Nat.{zero-add}
 use native.Mathlib.Numerals.{add-one}
 use lib.ListN.{length, getD, set, take, length-set, drop-of-length-le}
 use lib.Seq.{take-all}
-use lib.Dec.{ltb}
 use Rattle.lists.specs.Tests.{countFrom}
 use Rattle.lists.specs.Rows.{rows}
-use Rattle.lists.proofs.Turns.{one-most, count-from-turn, sweptTo, swept-length, swept-at, swept-turn, ltb-sub}
+use Rattle.lists.proofs.Turns.{one-most, count-from-turn, sweptTo, swept-length, swept-at, swept-turn}
+use Rattle.lists.proofs.Compares.{ltb-swap}
 use Rattle.model.specs.State.{Node, freeNode}
-use Rattle.model.specs.Retire.{retiredBy}
 use Rattle.layout.specs.Shape.{nodeWords}
-use Rattle.nodes.specs.Nodes.{nodesIn, nodeIn, Part, dueUnmarked, Freed, Swept}
+use Rattle.nodes.specs.Nodes.{nodesIn, nodeIn, Part, dueUnmarked, retiredBefore, Freed, Swept}
 use Rattle.nodes.proofs.Part.{nodes-length, nodes-back, part-rows, part-words}
 
 -- the words r₀ are r now: the first i nodes are swept
@@ -43,7 +42,7 @@ module _ {f : ℕ → Node → Bool} {m : ℕ} {r₀ r : List ℕ} {freed i : �
   node-now : nodeIn m r i ≡ nodeIn m r₀ i
   node-now = ap (λ (ns : List Node). getD ns i freeNode) now-nodes ∙ swept-at f freeNode 0 i (nodesIn m r₀) freeNode
 
-  module _ {b : Bool} {r′ : List ℕ} {v : ℕ} (l : i < m) (e : b ≡ f i (nodeIn m r i)) (u : Freed m r i b r′ v) where
+  module _ {b : Bool} {r′ : List ℕ} {freed′ : ℕ} (l : i < m) (e : b ≡ f i (nodeIn m r i)) (u : Freed m r i b freed r′ freed′) where
     inside : i < length (nodesIn m r₀)
     inside = rw many l
 
@@ -55,10 +54,10 @@ module _ {f : ℕ → Node → Bool} {m : ℕ} {r₀ r : List ℕ} {freed i : �
         (λ t. set (now-nodes t) i (cond (test t) freeNode (node-now t)))
         ∙ rw add-one (rw zero-add at (swept-turn f freeNode 0 (nodesIn m r₀) i freeNode inside))
 
-    passed-more : freed + v ≡ countFrom f 0 (take (i + 1) (nodesIn m r₀))
-    passed-more = rw (h .passed, u .1, test, add-one) (rw zero-add at (count-from-turn f 0 (nodesIn m r₀) i freeNode inside))
+    passed-more : freed′ ≡ countFrom f 0 (take (i + 1) (nodesIn m r₀))
+    passed-more = rw (u .1, h .passed, test, add-one) (rw zero-add at (count-from-turn f 0 (nodesIn m r₀) i freeNode inside))
 
-    pub turn : Sweeping f m r₀ r′ (freed + v) (i + 1)
+    pub turn : Sweeping f m r₀ r′ freed′ (i + 1)
     turn =
         record {
           part₀ = h .part₀;
@@ -74,7 +73,6 @@ module _ {f : ℕ → Node → Bool} {m : ℕ} {r₀ r : List ℕ} {freed i : �
       let q : length (nodesIn m r₀) ≤ i = rw many l in
       (h .words ∙ rw (take-all i (nodesIn m r₀) q, drop-of-length-le (nodesIn m r₀) q, append-nil), h .passed ∙ ap (countFrom f 0) (take-all i (nodesIn m r₀) q))
 
-pub due-test : (n : Node) (marks : List Bool) (p : ℕ) {clock delay c d s k j : ℕ} {b : Bool}
-    → b ≡ retiredBy p n → d ≡ delay → s ≡ n .retiredAt → k ≡ clock → j ≡ c
-    → (b && (ltb (d + s) k && not (getD marks (j + 1) false))) ≡ dueUnmarked p clock delay marks c n
-due-test n marks p eb ed es ek ej = rw (eb, ed, es, ek, ej, add-one, ltb-sub)
+pub due-is : (n : Node) (marks : List Bool) (p clock delay c : ℕ) {limit : ℕ} → limit ≡ clock - delay
+    → retiredBefore p limit marks c n ≡ dueUnmarked p clock delay marks c n
+due-is n marks p clock delay c e = rw (e, ltb-swap (n .retiredAt) delay clock)

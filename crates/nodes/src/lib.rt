@@ -5,14 +5,20 @@ use layout::NodeId;
 use layout::ProcessId;
 ghost use mathlib.Core.Path.{_≡_};
 ghost use mathlib.Core.Bool.{true, cond};
-ghost use Prim.Native.Nat.{_+_, _*_, _≤_, _<_};
+ghost use Prim.Native.Nat.{_+_, _*_, _-_, _≤_, _<_};
 ghost use lib.ListN.{set};
 ghost use lib.Dec.{eqb};
 ghost use Rattle.lists.specs.Tests.{count};
-ghost use Rattle.model.specs.State.{freeNode, Reachable};
+ghost use Rattle.model.specs.State.{Reachable};
 ghost use Rattle.model.specs.Retire.{retiredBy};
 ghost use Rattle.layout.specs.Values.{nodeValue};
-ghost use Rattle.nodes.specs.Nodes.{nodesIn, nodeIn, Part, withNode, inState, dueUnmarked, expiredIn, Freed, Swept};
+ghost use Rattle.nodes.specs.Nodes.{nodesIn, nodeIn, Part, withNode, inState};
+ghost use Rattle.nodes.specs.Nodes.{dueUnmarked, retiredBefore, expiredIn, Freed, Swept};
+
+// The states that are counted and swept.
+const REACHABLE: u32 = 2;
+
+const RETIRED: u32 = 4;
 
 // Where node c starts.
 fn offset(m: u32, c: NodeId) -> usize
@@ -79,22 +85,29 @@ pub fn reachable_count(nodes: &[u32], m: u32) -> u32
     requires { ⌜ Part m (now nodes) ⌝ }
     ensures { λ r. ⌜ r ≡ count (λ n. eqb (n .state) Reachable) (nodesIn m (now (nodes .entry))) ⌝ }
 {
-    let mut found: u32 = 0;
+    let mut reachable: u32 = 0;
     let mut i: u32 = 0;
     while i < m {
-        found += one_if(state_of(nodes, m, NodeId(i)) == 2);
+        reachable += one_if(state_of(nodes, m, NodeId(i)) == REACHABLE);
         i += 1;
     }
-    found
+    reachable
 }
 
-// Is node c a Retired node of p?
+// Two words as one number.
+fn pair(low: u32, high: u32) -> usize
+    ensures { λ r. ⌜ (r ≡ low + high * 4294967296) × (low < 4294967296) ⌝ }
+{
+    layout::wide(low) + layout::wide(high) * 4294967296
+}
+
+// Is node c a Retired node of p? State and owner are compared at once.
 fn retired_by(nodes: &[u32], m: u32, c: NodeId, p: ProcessId) -> bool
     requires { ⌜ Part m (now nodes) × (c .0 < m) ⌝ }
     ensures { λ r. ⌜ r ≡ retiredBy (p .0) (nodeIn m (now (nodes .entry)) (c .0)) ⌝ }
 {
     let at = offset(m, c);
-    (state_of(nodes, m, c) == 4) & (nodes[at + 1] == p.0)
+    pair(state_of(nodes, m, c), nodes[at + 1]) == pair(RETIRED, p.0)
 }
 
 // How many Retired nodes p has.
@@ -102,13 +115,13 @@ pub fn retired_count(nodes: &[u32], m: u32, p: ProcessId) -> u32
     requires { ⌜ Part m (now nodes) ⌝ }
     ensures { λ r. ⌜ r ≡ count (retiredBy (p .0)) (nodesIn m (now (nodes .entry))) ⌝ }
 {
-    let mut found: u32 = 0;
+    let mut retired: u32 = 0;
     let mut i: u32 = 0;
     while i < m {
-        found += one_if(retired_by(nodes, m, NodeId(i), p));
+        retired += one_if(retired_by(nodes, m, NodeId(i), p));
         i += 1;
     }
-    found
+    retired
 }
 
 // Sets the mark of a node, given as its number + 1, or the mark 0 of none.
@@ -119,23 +132,20 @@ pub fn mark(marks: &mut [bool; 257], v: u32)
     marks[layout::wide(v)] = true;
 }
 
-// Is node c due: Retired by p more than `delay` before `clock`, its mark not set?
-fn due(
-    nodes: &[u32],
-    m: u32,
-    c: NodeId,
-    p: ProcessId,
-    clock: u32,
-    delay: u32,
-    marks: &[bool; 257],
-) -> bool
+// The clock below which a node must have been retired to be aged.
+fn aged_before(clock: u32, delay: u32) -> u32
+    ensures { λ r. ⌜ r ≡ clock - delay ⌝ }
+{
+    if delay < clock { clock - delay } else { 0 }
+}
+
+// Is node c due: Retired by p at a clock below the limit, its mark not set?
+fn due(nodes: &[u32], m: u32, c: NodeId, p: ProcessId, limit: u32, marks: &[bool; 257]) -> bool
     requires { ⌜ Part m (now nodes) × (c .0 < m) ⌝ }
-    ensures { λ r. ⌜ r ≡ dueUnmarked (p .0) clock delay (now (marks .entry)) (c .0) (nodeIn m (now (nodes .entry)) (c .0)) ⌝ }
+    ensures { λ r. ⌜ r ≡ retiredBefore (p .0) limit (now (marks .entry)) (c .0) (nodeIn m (now (nodes .entry)) (c .0)) ⌝ }
 {
     let at = offset(m, c);
-    let retired = layout::wide(nodes[at + 3]);
-    let aged = layout::wide(delay) + retired < layout::wide(clock);
-    retired_by(nodes, m, c, p) & (aged & !marks[layout::wide(c.0) + 1])
+    retired_by(nodes, m, c, p) & ((nodes[at + 3] < limit) & !marks[layout::wide(c.0) + 1])
 }
 
 // Is node c a Retired node of p in the limbo list of `epoch`?
@@ -147,27 +157,23 @@ fn expired(nodes: &[u32], m: u32, c: NodeId, p: ProcessId, epoch: u32) -> bool
     retired_by(nodes, m, c, p) & (nodes[at + 4] == epoch)
 }
 
-// Frees node c where the test is passed, and answers how many it freed.
-fn free_if(nodes: &mut [u32], m: u32, c: NodeId, passed: bool) -> u32
-    requires { ⌜ Part m (now nodes) × (c .0 < m) ⌝ }
-    ensures { λ r. ⌜ Freed m (now (nodes .entry)) (c .0) passed (now (nodes .exit)) r ⌝ }
+// Frees node c where the test is passed, and answers how many are freed with it.
+fn free_if(nodes: &mut [u32], m: u32, c: NodeId, passed: bool, freed: u32) -> u32
+    requires { ⌜ Part m (now nodes) × (c .0 < m) × (freed ≤ c .0) ⌝ }
+    ensures { λ r. ⌜ Freed m (now (nodes .entry)) (c .0) passed freed (now (nodes .exit)) r ⌝ }
 {
     if passed {
-        put(
-            nodes,
-            m,
-            c,
-            Node {
-                state: 0,
-                owner: 0,
-                guest: 0,
-                retired: 0,
-                limbo: 0,
-            },
-        );
-        1
+        let free = Node {
+            state: 0,
+            owner: 0,
+            guest: 0,
+            retired: 0,
+            limbo: 0,
+        };
+        put(nodes, m, c, free);
+        freed + 1
     } else {
-        0
+        freed
     }
 }
 
@@ -183,11 +189,12 @@ pub fn sweep_due(
     requires { ⌜ Part m (now nodes) ⌝ }
     ensures { λ r. ⌜ Swept (dueUnmarked (p .0) clock delay (now (marks .entry))) m (now (nodes .entry)) (now (nodes .exit)) r ⌝ }
 {
+    let limit = aged_before(clock, delay);
     let mut freed: u32 = 0;
     let mut i: u32 = 0;
     while i < m {
-        let passed = due(nodes, m, NodeId(i), p, clock, delay, marks);
-        freed += free_if(nodes, m, NodeId(i), passed);
+        let is_due = due(nodes, m, NodeId(i), p, limit, marks);
+        freed = free_if(nodes, m, NodeId(i), is_due, freed);
         i += 1;
     }
     freed
@@ -201,8 +208,8 @@ pub fn sweep_expired(nodes: &mut [u32], m: u32, p: ProcessId, epoch: u32) -> u32
     let mut freed: u32 = 0;
     let mut i: u32 = 0;
     while i < m {
-        let passed = expired(nodes, m, NodeId(i), p, epoch);
-        freed += free_if(nodes, m, NodeId(i), passed);
+        let is_expired = expired(nodes, m, NodeId(i), p, epoch);
+        freed = free_if(nodes, m, NodeId(i), is_expired, freed);
         i += 1;
     }
     freed

@@ -1,42 +1,42 @@
+-- `nodes::retired_by` meets its contract: two pairs of words are equal where the words are. Assumes nothing.
 use mathlib.Core.Bool.{_&&_}
-use lib.Dec.{eqb}
-use Prim.Native.Nat.{ℕ}
-use mathlib.Core.Path.{ap₂}
-use Rattle.nodes.proofs.Part.{word-at}
+use mathlib.Core.Path.{_∙_}
 use native.Mathlib.Omega.{arith}
+use lib.Dec.{eqb}
 use borrow.Author.Needs.{needs}
+use Rattle.model.specs.State.{Retired}
+use Rattle.lists.proofs.Compares.{eqb-pair}
+use Rattle.nodes.proofs.Part.{word-at}
 use Rattle.nodes.proofs.retired_by.Statement.{statement}
 use Rattle.nodes.proofs.retired_by.Tie as tie
-use Rattle.nodes.proofs.retired_by.Reads as reads
-use Rattle.nodes.proofs.retired_by.Lts as lts
-use Rattle.nodes.proofs.offset.Reads as offset-reads
-use Rattle.nodes.proofs.state_of.Reads as state-of-reads
 
--- src/lib.rt:96:9
 offset-requires : tie.Need-offset-requires
 offset-requires c κs = search needs
 
--- src/lib.rt:97:6
 state-of-requires : tie.Need-state-of-requires
 state-of-requires c κs = search needs
 
--- src/lib.rt:97:43
-add-result : tie.Need-add-result
-add-result c = search needs
+add-pair : tie.Need-add-pair
+add-pair c = search needs
 
--- src/lib.rt:97:37
-mul-result : tie.Need-mul-result
-mul-result c = search needs
+mul-pair : tie.Need-mul-pair
+mul-pair c = search needs
 
--- src/lib.rt:97:37
-shared-slice-read-result : tie.Need-shared-slice-read-result
-shared-slice-read-result c = search needs
+shared-slice-read-pair : tie.Need-shared-slice-read-pair
+shared-slice-read-pair c = search needs
 
--- src/lib.rt:92:1
+pair-requires : tie.Need-pair-requires
+pair-requires c κs = search needs
+
+pair-requires-2 : tie.Need-pair-requires-2
+pair-requires-2 c κs = search needs
+
 returns : tie.Need-returns
 returns c =
-    ap₂ (λ (s o : ℕ). eqb s 4 && eqb o (c .before .before .before .before .before .args .p .0)) (c .before .before .state-of .ensures)
-    (word-at (c .before .before .before .before .before .pre .0) (c .before .before .before .before .before .pre .1) (c .before .before .before .offset .ensures .0) 1 (omega arith))
+    let h = c .before .before .before .before .before .before .pre in
+    let owner = word-at (h .0) (h .1) (c .before .before .before .before .offset .ensures .0) 1 (omega arith) in
+    eqb-pair _ _ _ _ (c .before .pair .ensures .0) (c .pair2 .ensures .0) (c .before .pair .ensures .1) (c .pair2 .ensures .1)
+    ∙ (λ t. eqb (c .before .before .before .state-of .ensures t) Retired && eqb (owner t) (c .before .before .before .before .before .before .args .p .0))
 
 pub retired-by-spec : {M : Type 1} → statement M
 retired-by-spec =
@@ -44,7 +44,9 @@ retired-by-spec =
     (tie.spec
     offset-requires
     state-of-requires
-    add-result
-    mul-result
-    shared-slice-read-result
+    add-pair
+    mul-pair
+    shared-slice-read-pair
+    pair-requires
+    pair-requires-2
     returns)

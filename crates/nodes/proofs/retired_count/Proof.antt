@@ -1,52 +1,40 @@
-use Rattle.model.specs.Retire.{retiredBy}
+-- `nodes::retired_count` meets its contract. The loop has counted the first i nodes; the measure is the number of those left. Assumes nothing.
 use mathlib.Core.Bool.{Bool, cond}
 use mathlib.Core.Path.{ap, _∙_}
 use Prim.Native.Nat.{_-_}
-use Rattle.nodes.proofs.Counting.{Counting, starts, turn, ends}
-use native.Mathlib.Omega.{arith}
 use borrow.Author.Needs.{needs}
+use Rattle.model.specs.Retire.{retiredBy}
+use Rattle.nodes.proofs.Counting.{Counting, starts, turn, ends}
 use Rattle.nodes.proofs.retired_count.Statement.{statement}
 use Rattle.nodes.proofs.retired_count.Tie as tie
-use Rattle.nodes.proofs.retired_count.Reads as reads
-use Rattle.nodes.proofs.retired_count.Lts as lts
-use Rattle.nodes.proofs.one_if.Reads as one-if-reads
-use Rattle.nodes.proofs.retired_by.Reads as retired-by-reads
 
 abbrev Inv-loop : tie.InvT-loop
-Inv-loop nodes m p found₀ i₀ found i = Counting (retiredBy (p .0)) m nodes found i
+Inv-loop nodes m p retired₀ i₀ retired i = Counting (retiredBy (p .0)) m nodes retired i
 
 abbrev μ-loop : tie.MeasureT-loop
-μ-loop nodes m p found₀ i₀ found i = m - i
+μ-loop nodes m p retired₀ i₀ retired i = m - i
 
--- src/lib.rt:107:5
 loop-holds : tie.Need-loop-holds Inv-loop μ-loop
 loop-holds c = starts (c .before .pre)
 
--- src/lib.rt:108:25
 retired-by-requires : tie.Need-retired-by-requires Inv-loop μ-loop
 retired-by-requires c κs = search needs
 
--- src/lib.rt:108:18
 one-if-requires : tie.Need-one-if-requires Inv-loop μ-loop
 one-if-requires c κs = search needs
 
--- src/lib.rt:108:9
-add-found : tie.Need-add-found Inv-loop μ-loop
-add-found c = search needs
+add-retired : tie.Need-add-retired Inv-loop μ-loop
+add-retired c = search needs
 
--- src/lib.rt:109:9
 add-i : tie.Need-add-i Inv-loop μ-loop
 add-i c = search needs
 
--- src/lib.rt:107:5
 loop-less : tie.Need-loop-less Inv-loop μ-loop
 loop-less c = search needs
 
--- src/lib.rt:107:5
 loop-again : tie.Need-loop-again Inv-loop μ-loop
 loop-again c = turn (c .before .before .before .loop .inv) (c .before .before .loop-test .taken) (c .one-if .ensures .0 ∙ ap (λ (b : Bool). cond b 1 0) (c .before .retired-by .ensures))
 
--- src/lib.rt:101:1
 returns : tie.Need-returns Inv-loop μ-loop
 returns c = ends (c .before .loop .inv) (c .loop-test .left)
 
@@ -59,7 +47,7 @@ retired-count-spec =
     loop-holds
     retired-by-requires
     one-if-requires
-    add-found
+    add-retired
     add-i
     loop-less
     loop-again

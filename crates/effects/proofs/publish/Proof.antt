@@ -1,0 +1,23 @@
+-- `effects::publish` meets its contract: by the node as it was. Assumes nothing.
+use mathlib.Core.Path.{_≡_, _∙_, ap, sym, refl}
+use Rattle.model.specs.State.{setNode}
+use Rattle.model.specs.Machine.{publishing}
+use Rattle.layout.specs.Encode.{encode, decode}
+use borrow.Author.Needs.{needs}
+use Rattle.effects.proofs.publish.Statement.{statement}
+use Rattle.effects.proofs.publish.Tie as tie
+
+node-requires : tie.Need-node-requires
+node-requires c κs = search needs
+
+set-node-requires : tie.Need-set-node-requires
+set-node-requires c κs = search needs
+
+same-length : tie.Need-same-length
+same-length c = search needs
+
+returns : tie.Need-returns
+returns c = c .before .before .set-node .ensures ∙ ap (λ n. encode (setNode (decode (c .before .before .before .before .before .before .before .args .words .now)) (c .before .before .before .before .before .before .before .args .c .0) (publishing n))) (c .before .before .before .before .node .ensures)
+
+pub publish-spec : {M : Type 1} → statement M
+publish-spec = tie.close (tie.spec node-requires set-node-requires same-length returns)
