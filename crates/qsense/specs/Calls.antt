@@ -23,20 +23,36 @@ refusing n ws = record { refusal = n; value = 0; words = ws }
 
 -- ---- making a domain: 1 unless every parameter is in its range, then 2 unless the slice is exactly as long
 
+-- N, K and M, which a domain's length goes by
+unfoldable pub sizesInRange : ℕ → ℕ → ℕ → Bool
+sizesInRange n k m = between 1 16 n && (between 1 8 k && between 1 256 m)
+
 unfoldable pub inRange : Params → Bool
 inRange a =
-    between 1 16 (a .processes)
-    && (between 1 8 (a .hazards)
-    && (between 1 256 (a .nodes)
+    sizesInRange (a .processes) (a .hazards) (a .nodes)
     && (between 1 1000 (a .visibilityBound)
     && (between 1 1000 (a .quiescenceThreshold)
-    && between 1 256 (a .fallbackThreshold)))))
+    && between 1 256 (a .fallbackThreshold)))
 
 unfoldable pub makeWords : List ℕ → Params → Reply
 makeWords ws a =
     cond (inRange a)
     (cond (eqb (length ws) (wordCount a)) (record { refusal = 0; value = 0; words = encode (fresh a) }) (refusing 2 ws))
     (refusing 1 ws)
+
+-- the words that a domain of n processes, k hazards a process and m nodes takes; 0 unless each is in its range
+unfoldable pub lengthFor : ℕ → ℕ → ℕ → ℕ
+lengthFor n k m =
+    cond (sizesInRange n k m)
+    (wordCount (record {
+      processes = n;
+      hazards = k;
+      nodes = m;
+      visibilityBound = 1;
+      quiescenceThreshold = 1;
+      fallbackThreshold = 1;
+    }))
+    0
 
 -- ---- a step: 3 unless the words are well formed, else the model's step
 
