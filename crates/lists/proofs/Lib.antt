@@ -14,3 +14,4 @@ pub mod Tested
 pub mod Compares
 pub mod Agree
 pub mod Mapped
+pub mod UptoParts

@@ -2,3 +2,4 @@ pub mod Through
 pub mod Made
 pub mod Carry
 pub mod Theorems
+pub mod Checked

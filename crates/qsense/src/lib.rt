@@ -1,5 +1,8 @@
-// The calls: make a domain, how many words it takes, and its reachable count. Each takes any words and any numbers.
+// The calls: make a domain, how many words it takes, a step, and the reachable count. Each takes any words and any numbers.
+use layout::HazardId;
+use layout::NodeId;
 use layout::Params;
+use layout::ProcessId;
 ghost use mathlib.Core.Bool.{true};
 ghost use mathlib.Core.Path.{_≡_};
 ghost use Prim.Native.Nat.{_+_, _*_};
@@ -9,7 +12,8 @@ ghost use Rattle.model.specs.Machine.{fresh};
 ghost use Rattle.layout.specs.Encode.{encode};
 ghost use Rattle.layout.specs.Values.{paramsValue};
 ghost use Rattle.layout.specs.Words.{between};
-ghost use Rattle.qsense.specs.Calls.{sizesInRange, inRange, makeWords, lengthFor};
+ghost use Rattle.qsense.specs.Calls.{sizesInRange, inRange, makeWords, lengthFor, reachableWords, stepWords};
+ghost use Rattle.domain.specs.Effects.{given};
 ghost use Rattle.qsense.specs.Values.{replyOf};
 
 // refusal: the number of the first question with the answer no, 0 for accepted.
@@ -106,5 +110,46 @@ pub fn length(n: u32, k: u32, m: u32) -> u32
         word_count(n, k, m)
     } else {
         0
+    }
+}
+
+// How many nodes are Reachable. Refused with 3 unless the words are those of a well-formed domain.
+pub fn reachable(words: &[u32]) -> Answer
+    ensures { λ r. ⌜ replyOf r (now (words .entry)) ≡ reachableWords (now (words .entry)) ⌝ }
+{
+    if !wellformed::well_formed(words) {
+        return Answer {
+            refusal: 3,
+            value: 0,
+        };
+    }
+    Answer {
+        refusal: 0,
+        value: domain::reachable_count(words),
+    }
+}
+
+// One step. Refused with 3 unless the words are those of a well-formed domain, then with the number of the first of the questions 4 to
+// 17 whose answer is no; refused, the value is 0 and nothing is written.
+pub fn step(
+    words: &mut [u32],
+    kind: u32,
+    process: ProcessId,
+    hazard: HazardId,
+    node: NodeId,
+    guest: u32,
+) -> Answer
+    ensures { λ r. ⌜ replyOf r (now (words .exit)) ≡ stepWords (now (words .entry)) (given kind (process .0) (hazard .0) (node .0) guest) ⌝ }
+{
+    if !wellformed::well_formed(words) {
+        return Answer {
+            refusal: 3,
+            value: 0,
+        };
+    }
+    let answer = steps::step_known(words, kind, process, hazard, node, guest);
+    Answer {
+        refusal: answer.refusal,
+        value: answer.value,
     }
 }

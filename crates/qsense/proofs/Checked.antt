@@ -1,0 +1,35 @@
+-- A call that checks its words first: refused with 3, or what it does to sound words. Assumes nothing.
+use Prim.Native.Nat.{ℕ}
+use mathlib.Core.Bool.{Bool, true, false}
+use mathlib.Core.List.{List}
+use mathlib.Core.Path.{_≡_, refl, sym, _∙_, ap}
+use Rattle.model.specs.State.{Step}
+use Rattle.model.specs.Machine.{step}
+use Rattle.model.specs.Claims.{reachableCount}
+use Rattle.layout.specs.Encode.{encode, decode}
+use Rattle.layout.specs.Words.{wellFormed}
+use Rattle.layout.specs.Sound.{Sound}
+use Rattle.layout.proofs.Checked.{well-formed-sound}
+use Rattle.steps.specs.Stepped.{Stepped}
+use Rattle.qsense.specs.Calls.{Reply, refusing, stepWords, reachableWords}
+
+module _ (ws : List ℕ) (b : Bool) (e : b ≡ wellFormed ws) where
+  pub checked : b ≡ true → Sound ws
+  checked t = well-formed-sound ws (sym e ∙ t)
+
+  pub count-refused : b ≡ false → refusing 3 ws ≡ reachableWords ws
+  unfolding reachableWords
+  count-refused t = rw (← e, t)
+
+  pub counted : b ≡ true → (n : ℕ) → n ≡ reachableCount (decode ws) → record { refusal = 0; value = n; words = ws } ≡ reachableWords ws
+  unfolding reachableWords
+  counted t n q = rw (← e, t, q)
+
+  pub step-refused : (s : Step) → b ≡ false → refusing 3 ws ≡ stepWords ws s
+  unfolding stepWords
+  step-refused s t = rw (← e, t)
+
+  pub stepped : (s : Step) → b ≡ true → (r v : ℕ) (ws' : List ℕ) → Stepped (step (decode ws) s) r v ws'
+      → record { refusal = r; value = v; words = ws' } ≡ stepWords ws s
+  unfolding stepWords
+  stepped s t r v ws' h = rw (← e, t) (λ i. record { refusal = h .refusal i; value = h .value i; words = h .words i })

@@ -1,0 +1,6 @@
+pub mod Lanes
+pub mod Within
+pub mod Nodes
+pub mod Clauses
+pub mod Rows
+pub mod Whole

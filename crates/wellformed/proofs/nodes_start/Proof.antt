@@ -1,0 +1,34 @@
+use Prim.Native.Nat.{ℕ, _+_, _*_, _≤_}
+use native.Mathlib.Nat.{le-trans, mul-le-mul-left, mul-le-mul-right}
+use native.Mathlib.Omega.{arith}
+use borrow.Author.Needs.{needs}
+use Rattle.wellformed.proofs.nodes_start.Statement.{statement}
+use Rattle.wellformed.proofs.nodes_start.Tie as tie
+use Rattle.wellformed.proofs.nodes_start.Reads as reads
+use Rattle.wellformed.proofs.nodes_start.Lts as lts
+
+small : (n k : ℕ) → n ≤ 16 → k ≤ 8 → n * (28 + 3 * k) ≤ 832
+small n k h l = le-trans (mul-le-mul-left n (omega arith)) (mul-le-mul-right 52 h)
+
+-- src/lib.rt:105:19
+mul-result : tie.Need-mul-result
+mul-result c = search needs
+
+-- src/lib.rt:105:14
+add-result : tie.Need-add-result
+add-result c = search needs
+
+-- src/lib.rt:105:9
+mul-result-2 : tie.Need-mul-result-2
+mul-result-2 c = omega (arith, small _ _ (c .pre .0) (c .pre .1))
+
+-- src/lib.rt:105:5
+add-result-2 : tie.Need-add-result-2
+add-result-2 c = omega (arith, small _ _ (c .pre .0) (c .pre .1))
+
+-- src/lib.rt:101:1
+returns : tie.Need-returns
+returns c = search needs
+
+pub nodes-start-spec : {M : Type 1} → statement M
+nodes-start-spec = tie.close (tie.spec mul-result add-result mul-result-2 add-result-2 returns)
