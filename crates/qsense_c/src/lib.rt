@@ -1,0 +1,91 @@
+// The calls for C and Rust hosts: thin exports over the library. A slice travels as a pointer and a length in words.
+use layout::HazardId;
+use layout::NodeId;
+use layout::Params;
+use layout::ProcessId;
+ghost use mathlib.Core.Path.{_≡_};
+ghost use Rattle.qsense.specs.Calls.{lengthFor, makeWords, stepWords, reachableWords};
+ghost use Rattle.domain.specs.Effects.{given};
+ghost use Rattle.qsense_c.specs.Values.{replyOf, paramsOf};
+
+#[repr(C)]
+pub struct Answer {
+    pub refusal: u32,
+    pub value: u32,
+}
+
+// The words that a domain takes; 0 unless N, K and M are in their ranges.
+#[no_mangle]
+pub extern "C" fn qsense_length(n: u32, k: u32, m: u32) -> u32
+    ensures { λ r. ⌜ r ≡ lengthFor n k m ⌝ }
+{
+    qsense::length(n, k, m)
+}
+
+// Makes a fresh domain of the words.
+#[no_mangle]
+pub extern "C" fn qsense_make(
+    words: &mut [u32],
+    n: u32,
+    k: u32,
+    m: u32,
+    t: u32,
+    q: u32,
+    c: u32,
+) -> Answer
+    ensures { λ r. ⌜ replyOf r (now (words .exit)) ≡ makeWords (now (words .entry)) (paramsOf n k m t q c) ⌝ }
+{
+    let a = qsense::make(
+        words,
+        Params {
+            processes: n,
+            hazards: k,
+            nodes: m,
+            visibility: t,
+            quiescence: q,
+            fallback: c,
+        },
+    );
+    Answer {
+        refusal: a.refusal,
+        value: a.value,
+    }
+}
+
+// One step.
+#[no_mangle]
+pub extern "C" fn qsense_step(
+    words: &mut [u32],
+    kind: u32,
+    process: u32,
+    hazard: u32,
+    node: u32,
+    guest: u32,
+) -> Answer
+    ensures { λ r. ⌜ replyOf r (now (words .exit)) ≡ stepWords (now (words .entry)) (given kind process hazard node guest) ⌝ }
+{
+    let a = qsense::step(
+        words,
+        kind,
+        ProcessId(process),
+        HazardId(hazard),
+        NodeId(node),
+        guest,
+    );
+    Answer {
+        refusal: a.refusal,
+        value: a.value,
+    }
+}
+
+// How many nodes are Reachable.
+#[no_mangle]
+pub extern "C" fn qsense_reachable(words: &[u32]) -> Answer
+    ensures { λ r. ⌜ replyOf r (now (words .entry)) ≡ reachableWords (now (words .entry)) ⌝ }
+{
+    let a = qsense::reachable(words);
+    Answer {
+        refusal: a.refusal,
+        value: a.value,
+    }
+}
