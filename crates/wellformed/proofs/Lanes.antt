@@ -4,13 +4,13 @@ use mathlib.Core.Bool.{Bool, true, false, not, _&&_, _||_, and-assoc}
 use mathlib.Core.List.{List}
 use mathlib.Core.Path.{_≡_, refl}
 use native.Mathlib.Nat.{add-zero}
-use borrow.Author.Tests.{lt-ltb, le-ltb, leb-true, leb-false}
 use lib.Dec.{leb, ltb}
 use Rattle.lists.specs.Upto.{allUpto}
 use Rattle.lists.proofs.UptoParts.{and-swap}
 use Rattle.layout.specs.Shape.{word}
 use Rattle.wellformed.specs.declared.Faults.{Faults}
 use Rattle.wellformed.specs.Limits.{none, within}
+use Rattle.wellformed.proofs.Tests.{over}
 
 noted : (a b c d e f : Bool)
     → (not a && (not b && (not c && (not d && not (e || f))))) ≡ ((not a && (not b && (not c && (not d && not e)))) && not f)
@@ -26,14 +26,6 @@ pub noted-none : (f : Faults) (b : Bool)
     ≡ (none f && not b)
 unfolding none
 noted-none f b = noted (f .first) (f .second) (f .third) (f .fourth) (f .other) b
-
--- a word over its limit is one that is not within it
-pub over : (w l : ℕ) → ltb l w ≡ not (leb w l)
-over w l = by (leb w l) refl
-  where
-    by : (b : Bool) → leb w l ≡ b → ltb l w ≡ not b
-    by true e = le-ltb l w (leb-true w l e)
-    by false e = lt-ltb l w (leb-false w l e)
 
 -- one lane
 lane : (a w : Bool) → not (a || not w) ≡ (not a && w)
@@ -52,18 +44,17 @@ lanes : (a b c d e w x y z : Bool)
     → (not (a || not w) && (not (b || not x) && (not (c || not y) && (not (d || not z) && not e))))
     ≡ ((not a && (not b && (not c && (not d && not e)))) && (((w && x) && y) && z))
 lanes a b c d e w x y z =
-    rw (
-      lane a w,
-      lane b x,
-      lane c y,
-      lane d z,
-      last (not d) z (not e),
-      and-swap (not c) y (not d && not e) z,
-      and-swap (not b) x (not c && (not d && not e)) (y && z),
-      and-swap (not a) w (not b && (not c && (not d && not e))) (x && (y && z)),
-      and-assoc (w && x) y z,
-      and-assoc w x (y && z),
-    )
+    rw
+    (lane a w,
+    lane b x,
+    lane c y,
+    lane d z,
+    last (not d) z (not e),
+    and-swap (not c) y (not d && not e) z,
+    and-swap (not b) x (not c && (not d && not e)) (y && z),
+    and-swap (not a) w (not b && (not c && (not d && not e))) (x && (y && z)),
+    and-assoc (w && x) y z,
+    and-assoc w x (y && z))
 
 pub piece-none : (f : Faults) (ws ls : List ℕ) (a b : ℕ)
     → none
@@ -77,14 +68,13 @@ pub piece-none : (f : Faults) (ws ls : List ℕ) (a b : ℕ)
     ≡ (none f && within ws a ls b 4)
 unfolding none within allUpto
 piece-none f ws ls a b =
-    rw (
-      add-zero a,
-      add-zero b,
-      over (word ws a) (word ls b),
-      over (word ws (a + 1)) (word ls (b + 1)),
-      over (word ws (a + 2)) (word ls (b + 2)),
-      over (word ws (a + 3)) (word ls (b + 3)),
-    )
+    rw
+    (add-zero a,
+    add-zero b,
+    over (word ws a) (word ls b),
+    over (word ws (a + 1)) (word ls (b + 1)),
+    over (word ws (a + 2)) (word ls (b + 2)),
+    over (word ws (a + 3)) (word ls (b + 3)))
     (lanes
     (f .first)
     (f .second)

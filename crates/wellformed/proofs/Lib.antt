@@ -1,6 +1,7 @@
+pub mod Tests
 pub mod Lanes
 pub mod Within
 pub mod Nodes
-pub mod Clauses
-pub mod Rows
-pub mod Whole
+pub mod Tables
+pub mod Processes
+pub mod Head

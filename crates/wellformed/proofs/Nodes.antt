@@ -14,21 +14,13 @@ use Rattle.layout.specs.Shape.{word, nodesStart}
 use Rattle.layout.specs.Codecs.{shape}
 use Rattle.layout.specs.Words.{nodeFits, nodesFit}
 use Rattle.wellformed.specs.Limits.{within, anyWord, nodeLimits, nodeWithin}
-use Rattle.wellformed.proofs.Lanes.{over}
+use Rattle.wellformed.proofs.Tests.{over, below, only-zero}
 
 pub node-none : (ws ls : List ℕ) (a : ℕ) (x y z : Bool) → y ≡ (x && not (ltb 4 (word ws a)))
     → z ≡ (y && within ws (a + 1) ls (word ws a % 8 * 4) 4) → z ≡ (x && nodeWithin ls ws a)
 unfolding nodeWithin
 node-none ws ls a x y z hy hz =
     rw (hz, hy, over (word ws a) 4, Bool·not-not (leb (word ws a) 4)) (and-assoc x _ _)
-
--- at most the last of n is below n
-pub below : (w n : ℕ) → 1 ≤ n → leb w (n - 1) ≡ ltb w n
-below w n h = by (leb w (n - 1)) refl
-  where
-    by : (b : Bool) → leb w (n - 1) ≡ b → b ≡ ltb w n
-    by true e = sym (lt-ltb w n (omega (arith, leb-true)))
-    by false e = sym (le-ltb w n (omega (arith, leb-false)))
 
 -- the five words against the row of the state, and by the paper's clauses
 module _ (n clock : ℕ) where
@@ -50,11 +42,7 @@ module _ (n clock : ℕ) where
       && (implies (not (eqb s 4)) (eqb t 0 && eqb l 0)
       && implies (eqb s 0) (eqb g 0))))))
 
-  -- a word that is 0 is within any limit
-  no-guest : (g : ℕ) → leb g 0 ≡ eqb g 0
-  no-guest zero = refl
-  no-guest (suc g) = leb·suc-zero g ∙ sym (eqb·suc-zero g)
-
+  -- 0 is below n
   no-owner : (o : ℕ) → 1 ≤ n → leb o 0 ≡ (ltb o n && eqb o 0)
   no-owner zero h = rw (lt-ltb 0 n h)
   no-owner (suc o) h = rw (leb·suc-zero o, eqb·suc-zero o, and-false (ltb (suc o) n))
@@ -67,7 +55,7 @@ module _ (n clock : ℕ) where
   unstamped (suc t) l a b c = simp (leb·suc-zero, eqb·suc-zero, and-false)
 
   by-state : (s o g t l : ℕ) → 1 ≤ n → g ≤ anyWord → inRow s o g t l ≡ asClauses s o g t l
-  by-state zero o g t l h k = rw (no-owner o h, no-guest g) (unstamped t l (ltb o n) (eqb o 0) (eqb g 0))
+  by-state zero o g t l h k = rw (no-owner o h, only-zero g) (unstamped t l (ltb o n) (eqb o 0) (eqb g 0))
   by-state (suc zero) o g t l h k = rw (below o n h, le-leb g anyWord k) (simp and-true (simp and-true at (unstamped t l (ltb o n) true true)))
   by-state (suc (suc zero)) o g t l h k = rw (no-owner o h, le-leb g anyWord k) (unstamped t l (ltb o n) (eqb o 0) true)
   by-state (suc (suc (suc zero))) o g t l h k = rw (below o n h, le-leb g anyWord k) (simp and-true (simp and-true at (unstamped t l (ltb o n) true true)))

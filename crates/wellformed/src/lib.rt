@@ -6,9 +6,8 @@ ghost use Prim.Native.Nat.{_+_, _*_, _≤_};
 ghost use lib.ListN.{length};
 ghost use Rattle.layout.specs.Codecs.{shape};
 ghost use Rattle.layout.specs.Shape.{nodesStart};
-ghost use Rattle.lists.specs.Upto.{allUpto};
-ghost use Rattle.layout.specs.Words.{headFits, hazardFits, storeFits, processFits, processesFit, nodesFit, wellFormed};
-ghost use Rattle.wellformed.specs.Limits.{none, within, nodeLimits, nodeWithin, Ready};
+ghost use Rattle.layout.specs.Words.{headFits, processesFit, nodesFit, wellFormed};
+ghost use Rattle.wellformed.specs.Limits.{none, within, nodeLimits, nodeWithin, sliding, backedAt, processWithin, Ready};
 
 // Whether a word was over its limit, by the word's place in its piece of four, and whether anything else was amiss.
 struct Faults {
@@ -67,14 +66,7 @@ fn piece(faults: Faults, words: &[u32], at: usize, limits: &[u32], from: usize) 
 }
 
 // So many pieces of words against as many of limits.
-fn pieces(
-    mut faults: Faults,
-    words: &[u32],
-    at: usize,
-    limits: &[u32],
-    from: usize,
-    count: usize,
-) -> Faults
+fn pieces(mut faults: Faults, words: &[u32], at: usize, limits: &[u32], from: usize, count: usize) -> Faults
     requires { ⌜ (at + 4 * count ≤ length (now words)) × (from + 4 * count ≤ length (now limits)) ⌝ }
     ensures { λ r. ⌜ none r ≡ (none faults && within (now (words .entry)) at (now (limits .entry)) from (4 * count)) ⌝ }
 {
@@ -92,38 +84,7 @@ fn node_limits(last: u32, clock: u32) -> [u32; 32]
 {
     let any: u32 = 4294967295;
     [
-        0,
-        0,
-        0,
-        0,
-        last,
-        any,
-        0,
-        0,
-        0,
-        any,
-        0,
-        0,
-        last,
-        any,
-        0,
-        0,
-        last,
-        any,
-        clock,
-        2,
-        0,
-        0,
-        0,
-        0,
-        0,
-        0,
-        0,
-        0,
-        0,
-        0,
-        0,
-        0,
+        0, 0, 0, 0, last, any, 0, 0, 0, any, 0, 0, last, any, 0, 0, last, any, clock, 2, 0, 0, 0, 0, 0, 0, 0, 0, 0, 0, 0, 0,
     ]
 }
 
@@ -133,13 +94,7 @@ fn node(faults: Faults, words: &[u32], at: usize, limits: &[u32]) -> Faults
     ensures { λ r. ⌜ none r ≡ (none faults && nodeWithin (now (limits .entry)) (now (words .entry)) at) ⌝ }
 {
     let state = words[at];
-    piece(
-        noted(faults, state > 4),
-        words,
-        at + 1,
-        limits,
-        (state % 8) as usize * 4,
-    )
+    piece(noted(faults, state > 4), words, at + 1, limits, (state % 8) as usize * 4)
 }
 
 // Where the nodes start, after the head and n processes of k hazards.
@@ -167,67 +122,41 @@ fn nodes_fit(words: &[u32]) -> bool
     is_clean(faults)
 }
 
-// Whether the hazard at `at` fits.
-fn hazard_fits(words: &[u32], at: usize, m: u32) -> bool
-    requires { ⌜ at + 3 ≤ length (now words) ⌝ }
-    ensures { λ r. ⌜ r ≡ hazardFits m (now (words .entry)) at ⌝ }
+// Eight times three limits, then 24 times one.
+fn slide(a: u32, b: u32, c: u32, rest: u32) -> [u32; 48]
+    ensures { λ r. ⌜ r ≡ sliding a b c rest ⌝ }
 {
-    (words[at] <= m)
-        & ((words[at + 1] <= m)
-            & ((words[at + 2] <= 1) & (!(words[at + 2] == 1) | !(words[at + 1] == 0))))
+    [
+        a, b, c, a, b, c, a, b, c, a, b, c, a, b, c, a, b, c, a, b, c, a, b, c, rest, rest, rest, rest, rest, rest, rest, rest, rest,
+        rest, rest, rest, rest, rest, rest, rest, rest, rest, rest, rest, rest, rest, rest, rest,
+    ]
 }
 
-// Whether the k hazards from `at` on fit.
-fn hazards_fit(words: &[u32], at: usize, k: usize, m: u32) -> bool
+// Whether in each of k hazards, the words from `at` on, validated is at most assigned.
+fn backed(words: &[u32], at: usize, k: usize) -> bool
     requires { ⌜ at + 3 * k ≤ length (now words) ⌝ }
-    ensures { λ r. ⌜ r ≡ allUpto (λ h. hazardFits m (now (words .entry)) (at + 3 * h)) k ⌝ }
+    ensures { λ r. ⌜ r ≡ backedAt (now (words .entry)) at k ⌝ }
 {
     let mut ok = true;
     let mut h = 0;
     while h < k {
-        ok = ok & hazard_fits(words, at + 3 * h, m);
+        ok = ok & (words[at + 3 * h + 2] <= words[at + 3 * h + 1]);
         h += 1;
     }
     ok
 }
 
-// Whether place e of a buffer, at `at`, fits.
-fn store_fits(words: &[u32], at: usize, e: usize, stores: usize, k: u32, m: u32, clock: u32) -> bool
-    requires { ⌜ at + 3 ≤ length (now words) ⌝ }
-    ensures { λ r. ⌜ r ≡ storeFits stores k m clock (now (words .entry)) at e ⌝ }
-{
-    let used = (words[at] < k) & ((words[at + 1] <= m) & (words[at + 2] <= clock));
-    let unused = (words[at] == 0) & ((words[at + 1] == 0) & (words[at + 2] == 0));
-    if e < stores { used } else { unused }
-}
-
-// Whether the eight places of a buffer, from `at` on, fit.
-fn stores_fit(words: &[u32], at: usize, stores: usize, k: u32, m: u32, clock: u32) -> bool
-    requires { ⌜ at + 24 ≤ length (now words) ⌝ }
-    ensures { λ r. ⌜ r ≡ allUpto (λ e. storeFits stores k m clock (now (words .entry)) (at + 3 * e) e) 8 ⌝ }
-{
-    let mut ok = true;
-    let mut e = 0;
-    while e < 8 {
-        ok = ok & store_fits(words, at + 3 * e, e, stores, k, m, clock);
-        e += 1;
-    }
-    ok
-}
-
-// Whether the process at `at` fits.
-fn process_fits(words: &[u32], at: usize, k: u32, m: u32, q: u32, clock: u32) -> bool
+// The process whose words start at `at`.
+fn process(faults: Faults, words: &[u32], at: usize, k: usize, lead: &[u32], hazards: &[u32], stores: &[u32]) -> Faults
     requires { ⌜ (k ≤ 8) × (at + (28 + 3 * k) ≤ length (now words)) ⌝ }
-    ensures { λ r. ⌜ r ≡ processFits k m q clock (now (words .entry)) at ⌝ }
+    requires { ⌜ (length (now lead) ≡ 4) × (length (now hazards) ≡ 48) × (length (now stores) ≡ 48) ⌝ }
+    ensures { λ r. ⌜ none r ≡ (none faults && processWithin (now (lead .entry)) (now (hazards .entry)) (now (stores .entry)) k (now (words .entry)) at) ⌝ }
 {
-    let hazards = layout::wide(k);
-    let stores = layout::wide(words[at + 3]);
-    (words[at] <= 2)
-        & ((words[at + 1] < q)
-            & ((words[at + 2] <= 1)
-                & ((words[at + 3] <= 8)
-                    & (hazards_fit(words, at + 4, hazards, m)
-                        & stores_fit(words, at + (4 + 3 * hazards), stores, k, m, clock)))))
+    let pending = (words[at + 3] % 9) as usize;
+    let one = pieces(faults, words, at, lead, 0, 1);
+    let two = pieces(one, words, at + 4, hazards, 24 - 3 * k, 6);
+    let three = pieces(two, words, at + 4 + 3 * k, stores, 24 - 3 * pending, 6);
+    noted(three, !backed(words, at + 4, k))
 }
 
 // Whether every process fits.
@@ -235,23 +164,20 @@ fn processes_fit(words: &[u32]) -> bool
     requires { ⌜ Ready (now words) ⌝ }
     ensures { λ r. ⌜ r ≡ processesFit (now (words .entry)) ⌝ }
 {
-    let count = layout::wide(words[0]);
-    let k = layout::wide(words[1]);
-    let mut ok = true;
+    let count = words[0] as usize;
+    let k = words[1] as usize;
+    let lead = [2, words[4] - 1, 1, 8];
+    let hazards = slide(words[2], words[2], 1, 4294967295);
+    let stores = slide(words[1] - 1, words[2], words[6], 0);
+    let mut faults = no_faults();
+    let mut at = 9;
     let mut p = 0;
     while p < count {
-        ok = ok
-            & process_fits(
-                words,
-                9 + p * (28 + 3 * k),
-                words[1],
-                words[2],
-                words[4],
-                words[6],
-            );
+        faults = process(faults, words, at, k, &lead, &hazards, &stores);
+        at += 28 + 3 * k;
         p += 1;
     }
-    ok
+    is_clean(faults)
 }
 
 // Whether the head's words are in their ranges.
@@ -261,11 +187,13 @@ fn head_fits(words: &[u32]) -> bool
 {
     ((1 <= words[0]) & (words[0] <= 16))
         & (((1 <= words[1]) & (words[1] <= 8))
-            & (((1 <= words[2]) & (words[2] <= 256))
-                & (((1 <= words[3]) & (words[3] <= 1000))
-                    & (((1 <= words[4]) & (words[4] <= 1000))
-                        & (((1 <= words[5]) & (words[5] <= 256))
-                            & ((words[6] <= 4294967295) & ((words[7] <= 1) & (words[8] <= 2))))))))
+        & (((1 <= words[2]) & (words[2] <= 256))
+        & (((1 <= words[3]) & (words[3] <= 1000))
+        & (((1 <= words[4]) & (words[4] <= 1000))
+        & (((1 <= words[5]) & (words[5] <= 256))
+        & ((words[6] <= 4294967295)
+        & ((words[7] <= 1)
+        & (words[8] <= 2))))))))
 }
 
 // Whether the words are those of a well-formed domain.
@@ -278,8 +206,7 @@ pub fn well_formed(words: &[u32]) -> bool
     if !head_fits(words) {
         return false;
     }
-    let nodes = layout::wide(words[2]);
-    if words.len() != nodes_start(layout::wide(words[0]), layout::wide(words[1])) + 5 * nodes {
+    if words.len() != nodes_start(words[0] as usize, words[1] as usize) + 5 * words[2] as usize {
         return false;
     }
     processes_fit(words) & nodes_fit(words)

@@ -1,14 +1,10 @@
-use Prim.Native.Nat.{ℕ, _+_, _*_, _≤_}
-use native.Mathlib.Nat.{le-trans, mul-le-mul-left, mul-le-mul-right}
+use Rattle.wellformed.proofs.Head.{small}
 use native.Mathlib.Omega.{arith}
 use borrow.Author.Needs.{needs}
 use Rattle.wellformed.proofs.nodes_start.Statement.{statement}
 use Rattle.wellformed.proofs.nodes_start.Tie as tie
 use Rattle.wellformed.proofs.nodes_start.Reads as reads
 use Rattle.wellformed.proofs.nodes_start.Lts as lts
-
-small : (n k : ℕ) → n ≤ 16 → k ≤ 8 → n * (28 + 3 * k) ≤ 832
-small n k h l = le-trans (mul-le-mul-left n (omega arith)) (mul-le-mul-right 52 h)
 
 -- src/lib.rt:105:19
 mul-result : tie.Need-mul-result
