@@ -14,7 +14,11 @@ pub const MOST_STEPS: usize = (GREATEST - 36) / 12;
 
 /// A book of these steps, whose kind, process and hazard fit a byte; `unread` goes to the byte that nobody reads.
 pub fn write(params: Params, steps: &[Step], unread: u8) -> Vec<u8> {
-    let mut bytes: Vec<u8> = params.numbers().iter().flat_map(|number| number.to_le_bytes()).collect();
+    let mut bytes: Vec<u8> = params
+        .numbers()
+        .iter()
+        .flat_map(|number| number.to_le_bytes())
+        .collect();
     for step in steps {
         bytes.extend([step.kind as u8, step.process as u8, step.hazard as u8, unread]);
         bytes.extend(step.node.to_le_bytes());
@@ -54,7 +58,13 @@ fn word(bytes: &[u8], at: usize) -> u32 {
 
 fn step(bytes: &[u8]) -> Step {
     let [kind, process, hazard] = [bytes[0], bytes[1], bytes[2]].map(u32::from);
-    Step { kind, process, hazard, node: word(bytes, 4), guest: word(bytes, 8) }
+    Step {
+        kind,
+        process,
+        hazard,
+        node: word(bytes, 4),
+        guest: word(bytes, 8),
+    }
 }
 
 /// What `desk` is to print for these bytes.
@@ -63,15 +73,21 @@ pub fn print(bytes: &[u8]) -> String {
         Ok(book) => book,
         Err(number) => return format!("refused {number}\n"),
     };
-    let [n, k, m, t, q, c] = params.numbers();
-    let mut text = format!("desk {n} {k} {m} {t} {q} {c}\n");
+    let mut text = format!("desk {params}\n");
     let mut model = Model::fresh(params, Rules::default());
     for (number, step) in steps.into_iter().enumerate() {
         let answer = model.step(step);
         let panel = model.domain.reachable();
-        writeln!(text, "{number} {} {} {} {panel}", step.kind, answer.refusal, answer.value).expect("a string");
+        writeln!(text, "{number} {} {answer} {panel}", step.kind).expect("a string");
     }
     let domain = &model.domain;
-    writeln!(text, "end {} {} {}", domain.clock, domain.path as u32, domain.reachable()).expect("a string");
+    writeln!(
+        text,
+        "end {} {} {}",
+        domain.clock,
+        domain.path as u32,
+        domain.reachable()
+    )
+    .expect("a string");
     text
 }

@@ -27,8 +27,13 @@ impl Coverage {
     /// Notes what is about to be changed by a step.
     pub fn before(&mut self, domain: &Domain, step: Step) {
         self.path = Some(domain.path);
-        self.pending = domain.processes.get(step.process as usize).map_or(0, |process| process.buffer.len());
-        self.validated = domain.all_hazards().any(|hazard| hazard.validated && hazard.assigned == Some(step.node));
+        self.pending = domain
+            .processes
+            .get(step.process as usize)
+            .map_or(0, |process| process.buffer.len());
+        self.validated = domain
+            .all_hazards()
+            .any(|hazard| hazard.validated && hazard.assigned == Some(step.node));
     }
 
     /// Counts a step that was answered so and left this domain.
@@ -47,7 +52,8 @@ impl Coverage {
             Kind::Retire => {
                 self.freed_by_scan += answer.value as u64;
                 self.retired_while_validated += self.validated as u64;
-                self.kept_while_visible += (domain.path == Path::Fallback && keeps_visible(domain, step.process)) as u64;
+                self.kept_while_visible +=
+                    (domain.path == Path::Fallback && keeps_visible(domain, step.process)) as u64;
             }
             Kind::Manage => self.freed_by_epoch += answer.value as u64,
             Kind::Protect | Kind::Clear => self.eighth_stores += (self.pending + 1 == BUFFER) as u64,
@@ -63,7 +69,9 @@ impl Coverage {
 
     /// Every count with its name.
     pub fn counts(&self) -> Vec<(String, u64)> {
-        let kinds = Kind::ALL.iter().map(|&kind| (format!("accepted {kind:?}"), self.accepted[kind as usize]));
+        let kinds = Kind::ALL
+            .iter()
+            .map(|&kind| (format!("accepted {kind:?}"), self.accepted[kind as usize]));
         let numbers = (3..=17).map(|number| (format!("refused {number}"), self.refused[number]));
         let others = [
             ("switched to fallback", self.to_fallback),
@@ -94,8 +102,10 @@ fn has_unread(kind: Kind, step: Step) -> bool {
 
 /// Whether a node of the owner is old enough for a scan and still there, because a hazard with it is visible.
 fn keeps_visible(domain: &Domain, scanner: u32) -> bool {
-    let old = |node: &Node| matches!(*node, Node::Retired { owner, retired_at, .. }
-        if owner == scanner && domain.clock - retired_at > domain.params.visibility_bound);
+    let old = |node: &Node| {
+        matches!(*node, Node::Retired { owner, retired_at, .. }
+        if owner == scanner && domain.clock - retired_at > domain.params.visibility_bound)
+    };
     let visible = domain.all_hazards().filter_map(|hazard| hazard.visible);
     visible.into_iter().any(|id| old(domain.node(id)))
 }

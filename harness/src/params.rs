@@ -1,11 +1,12 @@
 //! The six parameters of a domain, their ranges, and the number of words that they ask for.
 
 use crate::random::Random;
+use std::fmt::{Display, Formatter, Result};
 
 /// Each parameter's greatest value, in the paper's order N, K, M, T, Q, C; the least is 1.
 pub const LIMITS: [u32; 6] = [16, 8, 256, 1000, 1000, 256];
 
-#[derive(Clone, Copy, Debug, PartialEq, Eq)]
+#[derive(Clone, Copy, Debug, PartialEq)]
 pub struct Params {
     pub processes: u32,
     /// hazards of one process
@@ -17,8 +18,17 @@ pub struct Params {
 }
 
 impl Params {
-    pub fn from_numbers([processes, hazards, nodes, visibility_bound, quiescence_threshold, fallback_threshold]: [u32; 6]) -> Params {
-        Params { processes, hazards, nodes, visibility_bound, quiescence_threshold, fallback_threshold }
+    pub fn from_numbers(
+        [processes, hazards, nodes, visibility_bound, quiescence_threshold, fallback_threshold]: [u32; 6],
+    ) -> Params {
+        Params {
+            processes,
+            hazards,
+            nodes,
+            visibility_bound,
+            quiescence_threshold,
+            fallback_threshold,
+        }
     }
 
     pub fn numbers(self) -> [u32; 6] {
@@ -33,7 +43,10 @@ impl Params {
     }
 
     pub fn in_range(self) -> bool {
-        self.numbers().iter().zip(LIMITS).all(|(&x, limit)| (1..=limit).contains(&x))
+        self.numbers()
+            .iter()
+            .zip(LIMITS)
+            .all(|(&x, limit)| (1..=limit).contains(&x))
     }
 
     /// How many words a domain takes; for parameters in range.
@@ -53,5 +66,12 @@ impl Params {
             1 => Params::from_numbers([1; 6]),
             _ => Params::from_numbers(limits.map(|limit| 1 + random.below(limit))),
         }
+    }
+}
+
+impl Display for Params {
+    fn fmt(&self, f: &mut Formatter) -> Result {
+        let [n, k, m, t, q, c] = self.numbers();
+        write!(f, "{n} {k} {m} {t} {q} {c}")
     }
 }

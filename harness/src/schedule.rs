@@ -12,15 +12,35 @@ pub struct Mood {
     unread_percent: u32,
 }
 
+/// Weights in the order of the kinds by which nodes go round and hazards are claimed.
+const WEIGHTS: [u32; 13] = [8, 8, 8, 12, 4, 4, 6, 8, 3, 2, 6, 8, 1];
+
 impl Mood {
     pub fn random(random: &mut Random) -> Mood {
-        let weights = std::array::from_fn(|_| *random.of(&[1, 2, 4, 8]));
-        let mut mood = Mood { weights, accepted_percent: *random.of(&[70, 90, 97]), unread_percent: *random.of(&[0, 30]) };
-        // a roll call undoes what manages do, and a manage needs a process that has cleared its hazards
-        mood.weights[Kind::ClearPresence as usize - 1] = random.below(2);
-        mood.weights[Kind::Clear as usize - 1] += random.below(8);
-        mood.weights[Kind::Manage as usize - 1] += random.below(16);
-        mood
+        let mut weights = WEIGHTS.map(|weight| weight * random.of(&[1, 2, 4, 8]));
+        if random.chance(30) {
+            // claims that stay, and stores that stay pending
+            for kind in [Kind::Clear, Kind::Drain, Kind::Flush] {
+                weights[kind as usize - 1] = 1;
+            }
+        }
+        if random.chance(50) {
+            weights[Kind::ClearPresence as usize - 1] = 0;
+        }
+        Mood {
+            weights,
+            accepted_percent: *random.of(&[70, 90, 97]),
+            unread_percent: *random.of(&[0, 30]),
+        }
+    }
+
+    /// A mood in which nearly all steps are accepted, and fields that are not read are 0.
+    pub fn steady() -> Mood {
+        Mood {
+            weights: WEIGHTS,
+            accepted_percent: 100,
+            unread_percent: 0,
+        }
     }
 
     /// The next step for the model's domain.
@@ -61,7 +81,11 @@ fn likely(random: &mut Random, domain: &Domain, kind: Kind) -> Step {
     match kind {
         Kind::Allocate => {
             step.node = node_where(random, domain, |node| *node == Node::Free);
-            step.guest = if random.chance(10) { random.word() } else { random.below(100) };
+            step.guest = if random.chance(10) {
+                random.word()
+            } else {
+                random.below(100)
+            };
         }
         Kind::Publish => step.node = node_where(random, domain, |node| matches!(node, Node::Allocated { .. })),
         Kind::Remove => step.node = node_where(random, domain, |node| matches!(node, Node::Reachable { .. })),
@@ -79,7 +103,7 @@ fn likely(random: &mut Random, domain: &Domain, kind: Kind) -> Step {
         Kind::Manage => step.process = process_where(random, domain, |process| !process.has_assigned()),
         Kind::Flush | Kind::Tick | Kind::ClearPresence => {}
     }
-    if matches!(kind, Kind::Publish | Kind::Retire) {
+    if matches!(kind, Kind::Publish | Kind::Retire) && random.chance(97) {
         step.process = domain.node(step.node).owner().unwrap_or(step.process);
     }
     step
@@ -101,7 +125,9 @@ fn process_where(random: &mut Random, domain: &Domain, fits: impl Fn(&Process) -
 
 fn at_hazard(random: &mut Random, domain: &Domain, step: &mut Step, fits: impl Fn(&Hazard) -> bool) {
     step.process = process_where(random, domain, |process| process.hazards.iter().any(&fits));
-    step.hazard = place_where(random, domain.params.hazards, |id| fits(domain.hazard(step.process, id)));
+    step.hazard = place_where(random, domain.params.hazards, |id| {
+        fits(domain.hazard(step.process, id))
+    });
 }
 
 /// Fields in and out of range, and now and then a kind that is none.

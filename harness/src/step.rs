@@ -1,7 +1,9 @@
 //! A step as five numbers, its kind, and an answer as two.
 
+use std::fmt::{Display, Formatter, Result};
+
 #[repr(C)]
-#[derive(Clone, Copy, Debug, PartialEq, Eq)]
+#[derive(Clone, Copy, Debug, PartialEq)]
 pub struct Answer {
     pub refusal: u32,
     pub value: u32,
@@ -17,7 +19,13 @@ impl Answer {
     }
 }
 
-#[derive(Clone, Copy, Debug, PartialEq, Eq)]
+impl Display for Answer {
+    fn fmt(&self, f: &mut Formatter) -> Result {
+        write!(f, "{} {}", self.refusal, self.value)
+    }
+}
+
+#[derive(Clone, Copy, PartialEq)]
 pub struct Step {
     pub kind: u32,
     pub process: u32,
@@ -28,7 +36,13 @@ pub struct Step {
 
 impl Step {
     pub fn new(kind: Kind, process: u32, hazard: u32, node: u32, guest: u32) -> Step {
-        Step { kind: kind as u32, process, hazard, node, guest }
+        Step {
+            kind: kind as u32,
+            process,
+            hazard,
+            node,
+            guest,
+        }
     }
 
     pub fn numbers(self) -> [u32; 5] {
@@ -36,7 +50,14 @@ impl Step {
     }
 }
 
-#[derive(Clone, Copy, Debug, PartialEq, Eq)]
+impl Display for Step {
+    fn fmt(&self, f: &mut Formatter) -> Result {
+        let [kind, process, hazard, node, guest] = self.numbers();
+        write!(f, "{kind} {process} {hazard} {node} {guest}")
+    }
+}
+
+#[derive(Clone, Copy, Debug, PartialEq)]
 pub enum Kind {
     Allocate = 1,
     Publish,
@@ -59,7 +80,19 @@ use Kind::*;
 
 impl Kind {
     pub const ALL: [Kind; 13] = [
-        Allocate, Publish, Protect, Check, Use, Clear, Remove, Retire, Drain, Flush, Tick, Manage, ClearPresence,
+        Allocate,
+        Publish,
+        Protect,
+        Check,
+        Use,
+        Clear,
+        Remove,
+        Retire,
+        Drain,
+        Flush,
+        Tick,
+        Manage,
+        ClearPresence,
     ];
 
     pub fn from_number(number: u32) -> Option<Kind> {

@@ -49,10 +49,23 @@ pub struct Store {
 #[derive(Clone, Debug, PartialEq)]
 pub enum Node {
     Free,
-    Allocated { owner: u32, guest: u32 },
-    Reachable { guest: u32 },
-    Removed { owner: u32, guest: u32 },
-    Retired { owner: u32, guest: u32, retired_at: u32, limbo: u32 },
+    Allocated {
+        owner: u32,
+        guest: u32,
+    },
+    Reachable {
+        guest: u32,
+    },
+    Removed {
+        owner: u32,
+        guest: u32,
+    },
+    Retired {
+        owner: u32,
+        guest: u32,
+        retired_at: u32,
+        limbo: u32,
+    },
 }
 
 impl Node {
@@ -121,6 +134,9 @@ impl Domain {
 
     /// The panel's number.
     pub fn reachable(&self) -> u32 {
-        self.nodes.iter().filter(|node| matches!(node, Node::Reachable { .. })).count() as u32
+        self.nodes
+            .iter()
+            .filter(|node| matches!(node, Node::Reachable { .. }))
+            .count() as u32
     }
 }

@@ -32,7 +32,11 @@ impl Model {
             Kind::Drain if self.domain.process(step.process).buffer.is_empty() => 14,
             Kind::Tick => self.refusal_of_tick(),
             Kind::Manage if self.domain.process(step.process).has_assigned() => {
-                if self.rules.have(Mistake::NoQuestion17) { 0 } else { 17 }
+                if self.rules.have(Mistake::NoQuestion17) {
+                    0
+                } else {
+                    17
+                }
             }
             _ => 0,
         }

@@ -16,10 +16,13 @@ use std::process::{Command, Output, Stdio};
 type Outcome = Result<String, String>;
 
 pub fn all(report: &mut Report, desk: &Path, examples: &Path, seed: u64) {
-    let mut test = |name: &str, test: &dyn Fn(&Path, u64) -> Outcome| report.test(&format!("desk: {name}"), || test(desk, seed));
+    let mut test =
+        |name: &str, test: &dyn Fn(&Path, u64) -> Outcome| report.test(&format!("desk: {name}"), || test(desk, seed));
     test("random books", &random_books);
     test("any kind, process and hazard byte, any unread byte", &any_bytes);
-    test("no steps", &|desk, _| same(desk, &write(Params::from_numbers([2, 1, 2, 3, 1, 1]), &[], 0)));
+    test("no steps", &|desk, _| {
+        same(desk, &write(Params::from_numbers([2, 1, 2, 3, 1, 1]), &[], 0))
+    });
     test("books cut at every byte", &cut);
     test("padded in front", &padded);
     test("a wrong mark", &wrong_mark);
@@ -30,20 +33,29 @@ pub fn all(report: &mut Report, desk: &Path, examples: &Path, seed: u64) {
     test("in small chunks", &chunks);
     test("unreadable input", &unreadable);
     for name in ["first", "fallback", "kept", "epoch"] {
-        test(&format!("examples/{name}.book"), &|desk, _| example(desk, &examples.join(name)));
+        test(&format!("examples/{name}.book"), &|desk, _| {
+            example(desk, &examples.join(name))
+        });
     }
 }
 
 /// Runs `desk`, giving its input in pieces of at most `chunk` bytes.
 fn run(desk: &Path, input: &[u8], chunk: usize) -> Result<Output, String> {
     let mut command = Command::new(desk);
-    let command = command.stdin(Stdio::piped()).stdout(Stdio::piped()).stderr(Stdio::piped());
-    let mut child = command.spawn().map_err(|error| format!("{}: {error}", desk.display()))?;
+    let command = command
+        .stdin(Stdio::piped())
+        .stdout(Stdio::piped())
+        .stderr(Stdio::piped());
+    let mut child = command
+        .spawn()
+        .map_err(|error| format!("{}: {error}", desk.display()))?;
     let mut pipe = child.stdin.take().expect("a pipe");
     let input = input.to_vec();
     let writer = std::thread::spawn(move || {
         // a program that has read enough may leave: the rest is not its business
-        input.chunks(chunk).all(|piece| pipe.write_all(piece).is_ok() && pipe.flush().is_ok())
+        input
+            .chunks(chunk)
+            .all(|piece| pipe.write_all(piece).is_ok() && pipe.flush().is_ok())
     });
     let output = child.wait_with_output().map_err(|error| error.to_string());
     writer.join().map_err(|_| "the writer panicked")?;
@@ -56,7 +68,12 @@ fn same_in(desk: &Path, input: &[u8], chunk: usize) -> Outcome {
     if found != expected {
         let line = found.lines().zip(expected.lines()).take_while(|(x, y)| x == y).count();
         let of = |text: &str| text.lines().nth(line).unwrap_or("nothing").to_string();
-        return Err(format!("{} bytes, line {line}: {}, expected {}", input.len(), of(&found), of(&expected)));
+        return Err(format!(
+            "{} bytes, line {line}: {}, expected {}",
+            input.len(),
+            of(&found),
+            of(&expected)
+        ));
     }
     match output.stderr.is_empty() {
         true => Ok(expected.lines().next().unwrap_or_default().to_string()),
@@ -158,9 +175,25 @@ fn with_trailer(book: &[u8], count: u32, distance: u32) -> Vec<u8> {
 }
 
 fn wrong_numbers(desk: &Path, seed: u64) -> Outcome {
-    let book = write(Params::from_numbers([1; 6]), &schedule(&mut Random::new(seed, 2), Params::from_numbers([1; 6]), 10), 0);
+    let book = write(
+        Params::from_numbers([1; 6]),
+        &schedule(&mut Random::new(seed, 2), Params::from_numbers([1; 6]), 10),
+        0,
+    );
     let count = 10;
-    let distances = [0, 12, 24, 35, 37, 36 + 120 - 12, 36 + 120 - 1, 36 + 120 + 1, 36 + 120 + 12, 1 << 31, u32::MAX];
+    let distances = [
+        0,
+        12,
+        24,
+        35,
+        37,
+        36 + 120 - 12,
+        36 + 120 - 1,
+        36 + 120 + 1,
+        36 + 120 + 12,
+        1 << 31,
+        u32::MAX,
+    ];
     let wrong = distances.map(|distance| with_trailer(&book, count, distance));
     let counts = [0, 1, 9, 11, 1 << 31, u32::MAX].map(|count| with_trailer(&book, count, 156));
     let beyond = [11, 5000].map(|count| with_trailer(&book, count, 36 + 12 * count));
@@ -170,22 +203,38 @@ fn wrong_numbers(desk: &Path, seed: u64) -> Outcome {
 /// Counts whose distance passes 32 bits: wrapped or not, none is right.
 fn great_counts(desk: &Path, seed: u64) -> Outcome {
     let book = random_book(seed, 3);
-    let counts = [u32::MAX, u32::MAX - 1, u32::MAX - 2, u32::MAX / 12, u32::MAX / 12 + 1, 1 << 30, (1 << 30) + 1];
+    let counts = [
+        u32::MAX,
+        u32::MAX - 1,
+        u32::MAX - 2,
+        u32::MAX / 12,
+        u32::MAX / 12 + 1,
+        1 << 30,
+        (1 << 30) + 1,
+    ];
     let pairs = counts.into_iter().flat_map(|count| {
         let wrapped = count.wrapping_mul(12).wrapping_add(36);
         [wrapped, wrapped.min(book.len() as u32), u32::MAX, 36].map(|distance| (count, distance))
     });
-    let books: Vec<_> = pairs.map(|(count, distance)| with_trailer(&book, count, distance)).collect();
+    let books: Vec<_> = pairs
+        .map(|(count, distance)| with_trailer(&book, count, distance))
+        .collect();
     each(desk, books, Some(19))
 }
 
 fn wrong_params(desk: &Path, seed: u64) -> Outcome {
     let limits = crate::params::LIMITS;
-    let books = (0..6).flat_map(|place| [0, limits[place] + 1, 1 << 31, u32::MAX].map(|value| (place, value))).map(|(place, value)| {
-        let mut numbers = [1; 6];
-        numbers[place] = value;
-        write(Params::from_numbers(numbers), &schedule(&mut Random::new(seed, 4), Params::from_numbers([1; 6]), 5), 0)
-    });
+    let books = (0..6)
+        .flat_map(|place| [0, limits[place] + 1, 1 << 31, u32::MAX].map(|value| (place, value)))
+        .map(|(place, value)| {
+            let mut numbers = [1; 6];
+            numbers[place] = value;
+            write(
+                Params::from_numbers(numbers),
+                &schedule(&mut Random::new(seed, 4), Params::from_numbers([1; 6]), 5),
+                0,
+            )
+        });
     each(desk, books, Some(1))
 }
 
@@ -194,15 +243,30 @@ fn longest(desk: &Path, seed: u64) -> Outcome {
     let book = write(params, &schedule(&mut Random::new(seed, 5), params, MOST_STEPS), 0);
     let padded = |length: usize| [vec![7; length - book.len()], book.clone()].concat();
     each(desk, [book.clone(), padded(GREATEST)], None)?;
-    each(desk, [padded(GREATEST + 1), padded(GREATEST + 2), vec![0; GREATEST + 1], vec![0; 300_000]], Some(18))?;
-    Ok(format!("{MOST_STEPS} steps; {GREATEST} bytes taken, longer ones refused with 18"))
+    each(
+        desk,
+        [
+            padded(GREATEST + 1),
+            padded(GREATEST + 2),
+            vec![0; GREATEST + 1],
+            vec![0; 300_000],
+        ],
+        Some(18),
+    )?;
+    Ok(format!(
+        "{MOST_STEPS} steps; {GREATEST} bytes taken, longer ones refused with 18"
+    ))
 }
 
 fn chunks(desk: &Path, seed: u64) -> Outcome {
     let mut count = 0;
     for chunk in [1, 2, 7, 11, 12, 13, 100, 4096] {
         let book = random_book(seed, chunk as u64);
-        let book = if chunk == 1 { book[..book.len().min(1200)].to_vec() } else { book };
+        let book = if chunk == 1 {
+            book[..book.len().min(1200)].to_vec()
+        } else {
+            book
+        };
         same_in(desk, &book, chunk)?;
         count += 1;
     }
@@ -212,17 +276,25 @@ fn chunks(desk: &Path, seed: u64) -> Outcome {
 /// A directory as standard input cannot be read: a line on standard error, nothing on standard output.
 fn unreadable(desk: &Path, _: u64) -> Outcome {
     let directory = File::open("/").map_err(|error| error.to_string())?;
-    let output = Command::new(desk).stdin(directory).output().map_err(|error| error.to_string())?;
+    let output = Command::new(desk)
+        .stdin(directory)
+        .output()
+        .map_err(|error| error.to_string())?;
     let said = String::from_utf8_lossy(&output.stderr);
     match (output.stdout.is_empty(), said.lines().count(), said.ends_with('\n')) {
         (true, 1, true) => Ok(said.trim_end().to_string()),
-        _ => Err(format!("standard output {:?}, standard error {said:?}", String::from_utf8_lossy(&output.stdout))),
+        _ => Err(format!(
+            "standard output {:?}, standard error {said:?}",
+            String::from_utf8_lossy(&output.stdout)
+        )),
     }
 }
 
 /// A book of the examples prints what stands beside it, by the model too.
 fn example(desk: &Path, path: &Path) -> Outcome {
-    let read = |extension| std::fs::read(path.with_extension(extension)).map_err(|error| format!("{}: {error}", path.display()));
+    let read = |extension| {
+        std::fs::read(path.with_extension(extension)).map_err(|error| format!("{}: {error}", path.display()))
+    };
     let (book, expected) = (read("book")?, read("out")?);
     if print(&book).as_bytes() != expected {
         return Err("the model prints something else".into());

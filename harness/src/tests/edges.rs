@@ -29,9 +29,11 @@ const VALIDATED: usize = 15;
 const NODE: [usize; 2] = [40, 45];
 
 pub fn all(report: &mut Report, calls: &Calls) {
-    report.test("edge: length at 1, 1, 1 and at 16, 8, 256", || match (calls.length(1, 1, 1), calls.length(16, 8, 256)) {
-        (45, 2121) => Ok("45 and 2121".into()),
-        other => Err(format!("{other:?}")),
+    report.test("edge: length at 1, 1, 1 and at 16, 8, 256", || {
+        match (calls.length(1, 1, 1), calls.length(16, 8, 256)) {
+            (45, 2121) => Ok("45 and 2121".into()),
+            other => Err(format!("{other:?}")),
+        }
     });
     for case in cases() {
         report.test(&format!("edge: {}", case.name), || check(calls, &case));
@@ -42,17 +44,24 @@ fn check(calls: &Calls, case: &Case) -> Result<String, String> {
     let mut words = case.words.clone();
     holds("library", case, &mut words, |words, step| calls.step(words, step))?;
     let mut words = case.words.clone();
-    holds("model", case, &mut words, |words, step| step_words(words, step, Rules::default()))?;
+    holds("model", case, &mut words, |words, step| {
+        step_words(words, step, Rules::default())
+    })?;
     Ok(format!("{} steps", case.steps.len()))
 }
 
-fn holds(who: &str, case: &Case, words: &mut Vec<u32>, mut take: impl FnMut(&mut Vec<u32>, Step) -> Answer) -> Result<(), String> {
+fn holds(
+    who: &str,
+    case: &Case,
+    words: &mut Vec<u32>,
+    mut take: impl FnMut(&mut Vec<u32>, Step) -> Answer,
+) -> Result<(), String> {
     for (number, &step) in case.steps.iter().enumerate() {
         let special = case.answers.iter().find(|answer| answer.0 == number);
         let expected = special.map_or(Answer::accepted(0), |&(_, refusal, value)| Answer { refusal, value });
         let answer = take(words, step);
         if answer != expected {
-            return Err(format!("{who}, step {number}: {answer:?}, expected {expected:?}"));
+            return Err(format!("{who}, step {number}: {answer}, expected {expected}"));
         }
     }
     match case.after.iter().find(|&&(index, value)| words[index] != value) {
@@ -73,7 +82,9 @@ fn of(kind: Kind) -> Step {
 
 /// A node from Free to Retired by process 0.
 fn turnover(node: u32, guest: u32) -> Vec<Step> {
-    [Kind::Allocate, Kind::Publish, Kind::Remove, Kind::Retire].map(|kind| Step::new(kind, 0, 0, node, guest)).to_vec()
+    [Kind::Allocate, Kind::Publish, Kind::Remove, Kind::Retire]
+        .map(|kind| Step::new(kind, 0, 0, node, guest))
+        .to_vec()
 }
 
 /// Node 0 retired at clock 0, then ticks, then a second retire, which scans, since C = 1.
@@ -89,13 +100,36 @@ fn cases() -> Vec<Case> {
         answers: answers.to_vec(),
         after: after.to_vec(),
     };
-    let visible = [Kind::Allocate, Kind::Publish, Kind::Protect, Kind::Drain, Kind::Remove, Kind::Retire].map(of).to_vec();
+    let visible = [
+        Kind::Allocate,
+        Kind::Publish,
+        Kind::Protect,
+        Kind::Drain,
+        Kind::Remove,
+        Kind::Retire,
+    ]
+    .map(of)
+    .to_vec();
     let mut stopped = fresh([1, 1, 1, 3, 1, 1]);
     (stopped[CLOCK], stopped[PENDING], stopped[16 + 1], stopped[16 + 2]) = (u32::MAX, 1, 1, u32::MAX - 3);
-    let claimed = [Kind::Allocate, Kind::Publish, Kind::Protect, Kind::Check].map(of).to_vec();
+    let claimed = [Kind::Allocate, Kind::Publish, Kind::Protect, Kind::Check]
+        .map(of)
+        .to_vec();
     vec![
-        at("T = 3, a scan at clock 3 keeps the node", [1, 1, 2, 3, 1, 1], scan_after(3), &[], &[(NODE[0], 4), (NODE[1], 4)]),
-        at("at clock 4 it frees it", [1, 1, 2, 3, 1, 1], scan_after(4), &[(11, 0, 1)], &[(NODE[0], 0), (NODE[1], 4)]),
+        at(
+            "T = 3, a scan at clock 3 keeps the node",
+            [1, 1, 2, 3, 1, 1],
+            scan_after(3),
+            &[],
+            &[(NODE[0], 4), (NODE[1], 4)],
+        ),
+        at(
+            "at clock 4 it frees it",
+            [1, 1, 2, 3, 1, 1],
+            scan_after(4),
+            &[(11, 0, 1)],
+            &[(NODE[0], 0), (NODE[1], 4)],
+        ),
         at(
             "and keeps it if visible",
             [1, 1, 2, 3, 1, 1],
@@ -110,10 +144,34 @@ fn cases() -> Vec<Case> {
             &[(8, 13, 0), (9, 13, 0)],
             &[(PENDING, 8)],
         ),
-        at("C = 2, the first retire stays fast", [1, 1, 2, 3, 1, 2], turnover(0, 70), &[], &[(PATH, 0)]),
-        at("the second switches", [1, 1, 2, 3, 1, 2], [turnover(0, 70), turnover(1, 60)].concat(), &[], &[(PATH, 1)]),
-        at("Q = 3, two manages count", [1, 1, 1, 1, 3, 1], vec![of(Kind::Manage); 2], &[], &[(CALLS, 2), (PRESENCE, 0), (EPOCH, 0)]),
-        at("the third acts", [1, 1, 1, 1, 3, 1], vec![of(Kind::Manage); 3], &[], &[(CALLS, 0), (PRESENCE, 1), (EPOCH, 1)]),
+        at(
+            "C = 2, the first retire stays fast",
+            [1, 1, 2, 3, 1, 2],
+            turnover(0, 70),
+            &[],
+            &[(PATH, 0)],
+        ),
+        at(
+            "the second switches",
+            [1, 1, 2, 3, 1, 2],
+            [turnover(0, 70), turnover(1, 60)].concat(),
+            &[],
+            &[(PATH, 1)],
+        ),
+        at(
+            "Q = 3, two manages count",
+            [1, 1, 1, 1, 3, 1],
+            vec![of(Kind::Manage); 2],
+            &[],
+            &[(CALLS, 2), (PRESENCE, 0), (EPOCH, 0)],
+        ),
+        at(
+            "the third acts",
+            [1, 1, 1, 1, 3, 1],
+            vec![of(Kind::Manage); 3],
+            &[],
+            &[(CALLS, 0), (PRESENCE, 1), (EPOCH, 1)],
+        ),
         at(
             "the sixth manage frees",
             [1, 1, 1, 1, 1, 2],
@@ -131,14 +189,21 @@ fn cases() -> Vec<Case> {
         at(
             "use after protect without check gets 12",
             [1, 1, 1, 1, 1, 1],
-            [Kind::Allocate, Kind::Publish, Kind::Protect, Kind::Use].map(of).to_vec(),
+            [Kind::Allocate, Kind::Publish, Kind::Protect, Kind::Use]
+                .map(of)
+                .to_vec(),
             &[(3, 12, 0)],
             &[(VALIDATED, 0)],
         ),
         at(
             "a check refused with 11 keeps an old claim",
             [1, 1, 1, 1, 1, 1],
-            [vec![Step::new(Kind::Allocate, 0, 0, 0, 70)], claimed[1..].to_vec(), [Kind::Remove, Kind::Check, Kind::Use].map(of).to_vec()].concat(),
+            [
+                vec![Step::new(Kind::Allocate, 0, 0, 0, 70)],
+                claimed[1..].to_vec(),
+                [Kind::Remove, Kind::Check, Kind::Use].map(of).to_vec(),
+            ]
+            .concat(),
             &[(5, 11, 0), (6, 0, 70)],
             &[(VALIDATED, 1)],
         ),

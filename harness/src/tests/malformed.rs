@@ -10,7 +10,6 @@ use crate::model::mistake::Rules;
 use crate::model::words::encode;
 use crate::params::{Params, LIMITS};
 use crate::random::Random;
-use crate::schedule::Mood;
 use crate::step::{Answer, Kind, Step};
 
 /// Every word of many domains pushed out in turn, each condition among them.
@@ -18,15 +17,23 @@ pub fn one_word(calls: &Calls, seed: u64, coverage: &mut Coverage) -> Result<Str
     let mut counts = [0; CONDITIONS.len()];
     for index in 0..60 {
         let mut random = Random::new(seed ^ 0x0b10, index);
-        let params = if index == 0 { Params::from_numbers(LIMITS) } else { Params::random(&mut random) };
+        let params = if index == 0 {
+            Params::from_numbers(LIMITS)
+        } else {
+            Params::random(&mut random)
+        };
         let domain = arbitrary::domain(&mut random, params);
         broken_in_turn(calls, Rules::default(), &domain, &mut random, coverage, &mut counts)
-            .map_err(|wrong| format!("seed {seed}, domain {index}, {params:?}: {wrong}"))?;
+            .map_err(|wrong| format!("seed {seed}, domain {index}, {params}: {wrong}"))?;
     }
     let least = counts.iter().min().expect("conditions");
     match least {
         0 => Err(format!("a condition was never broken: {counts:?} of {CONDITIONS:?}")),
-        _ => Ok(format!("{} words broken, each of {} conditions at least {least} times", counts.iter().sum::<u32>(), counts.len())),
+        _ => Ok(format!(
+            "{} words broken, each of {} conditions at least {least} times",
+            counts.iter().sum::<u32>(),
+            counts.len()
+        )),
     }
 }
 
@@ -44,9 +51,16 @@ pub fn broken_in_turn(
     for broken in every_word(domain) {
         let mut words = good.clone();
         words[broken.index] = broken.value;
-        refused(calls, rules, &words, any_step(random), coverage)
-            .map_err(|wrong| format!("word {} = {} ({}): {wrong}", broken.index, broken.value, broken.condition))?;
-        counts[CONDITIONS.iter().position(|&name| name == broken.condition).expect("a listed condition")] += 1;
+        refused(calls, rules, &words, any_step(random), coverage).map_err(|wrong| {
+            format!(
+                "word {} = {} ({}): {wrong}",
+                broken.index, broken.value, broken.condition
+            )
+        })?;
+        counts[CONDITIONS
+            .iter()
+            .position(|&name| name == broken.condition)
+            .expect("a listed condition")] += 1;
     }
     Ok(())
 }
@@ -56,13 +70,22 @@ fn refused(calls: &Calls, rules: Rules, words: &[u32], step: Step, coverage: &mu
     let answer = on_words(calls, rules, words, step)?;
     coverage.malformed(answer);
     if answer != Answer::refused(3) {
-        return Err(format!("{answer:?} by both, expected 3"));
+        return Err(format!("{answer} by both, expected 3"));
     }
     let mut lent = Lent::new(words);
     let steps = [step.numbers(), Step::new(Kind::Tick, 0, 0, 0, 0).numbers()].concat();
     let mut answers = [7; 4];
     let taken = calls.run(lent.words_mut(), &steps, &mut answers);
-    same("run", Answer { refusal: answers[0], value: answers[1] }, &lent, answer, words)?;
+    same(
+        "run",
+        Answer {
+            refusal: answers[0],
+            value: answers[1],
+        },
+        &lent,
+        answer,
+        words,
+    )?;
     match (taken, answers) {
         (true, [3, 0, 3, 0]) => Ok(()),
         _ => Err(format!("run: {taken}, {answers:?}")),
@@ -74,7 +97,13 @@ fn any_step(random: &mut Random) -> Step {
 }
 
 /// Well-formed words with one to three words replaced by small or large ones: the model says what they are.
-pub fn some_words(calls: &Calls, rules: Rules, seed: u64, cases: u64, coverage: &mut Coverage) -> Result<String, String> {
+pub fn some_words(
+    calls: &Calls,
+    rules: Rules,
+    seed: u64,
+    cases: u64,
+    coverage: &mut Coverage,
+) -> Result<String, String> {
     let mut still_good = 0;
     for index in 0..cases {
         let mut random = Random::new(seed ^ 0x5011, index);
@@ -124,24 +153,4 @@ pub fn nothing(calls: &Calls) -> Result<String, String> {
         found if found == expected => Ok("make 2, step 3, reachable 3, an empty run taken".into()),
         found => Err(format!("{found:?}, expected {expected:?}")),
     }
-}
-
-/// Random schedules on words: a check that the model on words is the model on records.
-pub fn agrees_with_records(calls: &Calls, seed: u64) -> Result<String, String> {
-    for index in 0..300 {
-        let mut random = Random::new(seed ^ 0xc0de, index);
-        let params = Params::random(&mut random);
-        let mut model = crate::model::Model { rules: Rules::default(), domain: arbitrary::domain(&mut random, params) };
-        let step = Mood::random(&mut random).step(&mut random, &model);
-        let (mut words, mut after) = (Vec::new(), Vec::new());
-        encode(&model.domain, &mut words);
-        let answer = on_words(calls, Rules::default(), &words, step)?;
-        let expected = model.step(step);
-        crate::model::step_words(&mut words, step, Rules::default());
-        encode(&model.domain, &mut after);
-        if answer != expected || words != after {
-            return Err(format!("seed {seed}, case {index}: {step:?}"));
-        }
-    }
-    Ok("300 steps".into())
 }

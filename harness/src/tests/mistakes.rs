@@ -18,10 +18,14 @@ const ROUNDS: u64 = 400;
 
 pub fn all(report: &mut Report, calls: &Calls, seed: u64) {
     for &mistake in Mistake::ALL {
-        report.test(&format!("told from the model with {mistake:?}"), || found(calls, mistake, seed));
+        report.test(&format!("told from the model with {mistake:?}"), || {
+            found(calls, mistake, seed)
+        });
     }
     for &mistake in [Mistake::UNSAFE, Mistake::UNBOUNDED].into_iter().flatten() {
-        report.test(&format!("the reference objects to {mistake:?}"), || objected(mistake, seed));
+        report.test(&format!("the reference objects to {mistake:?}"), || {
+            objected(mistake, seed)
+        });
     }
 }
 
@@ -43,6 +47,7 @@ fn compare(calls: &Calls, rules: Rules, seed: u64, round: u64, coverage: &mut Co
     let params = Params::random(random);
     let domain = arbitrary::domain(random, params);
     malformed::broken_in_turn(calls, rules, &domain, random, coverage, &mut [0; CONDITIONS.len()])?;
+    malformed::some_words(calls, rules, seed ^ round, 20, coverage)?;
     match round {
         0 => malformed::lengths(calls, rules, seed, coverage).map(|_| ()),
         _ => Ok(()),

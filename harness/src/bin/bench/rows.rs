@@ -1,0 +1,137 @@
+//! Check, step, run and count at one shape, on one domain and on 64 in turn.
+
+use crate::race::{race, Counts, ModelSteps, Run, Steps, Work};
+use harness::arbitrary;
+use harness::library::{PLAIN, QSENSE, TRUSTING};
+use harness::model::mistake::Rules;
+use harness::model::words::encode;
+use harness::model::Model;
+use harness::params::Params;
+use harness::random::Random;
+use harness::schedule::Mood;
+use harness::step::Step;
+
+const ROUNDS: u32 = 200;
+const MODEL_ROUNDS: u32 = 10;
+const STEPS: usize = 5_000;
+
+/// Domains with their words and a schedule of mostly accepted steps, which visits them in turn.
+struct Plan {
+    start: Vec<Vec<u32>>,
+    schedule: Vec<(usize, Step)>,
+}
+
+impl Plan {
+    fn new(params: Params, domains: usize) -> Plan {
+        let mut random = Random::new(1, domains as u64);
+        let mut models: Vec<Model> = (0..domains).map(|_| running(&mut random, params)).collect();
+        let start = models.iter().map(words).collect();
+        let mood = Mood::steady();
+        let schedule = (0..STEPS).map(|turn| {
+            let model = &mut models[turn % domains];
+            let step = mood.step(&mut random, model);
+            model.step(step);
+            (turn % domains, step)
+        });
+        Plan {
+            schedule: schedule.collect(),
+            start,
+        }
+    }
+
+    /// Steps of a kind that there is not, which are answered right after the check.
+    fn unknown(&self) -> Vec<(usize, Step)> {
+        let none = Step {
+            kind: 0,
+            process: 0,
+            hazard: 0,
+            node: 0,
+            guest: 0,
+        };
+        (0..STEPS).map(|turn| (turn % self.start.len(), none)).collect()
+    }
+}
+
+/// A domain of any content, with a clock that can go on.
+fn running(random: &mut Random, params: Params) -> Model {
+    loop {
+        let domain = arbitrary::domain(random, params);
+        if (10..1 << 31).contains(&domain.clock) {
+            return Model {
+                rules: Rules::default(),
+                domain,
+            };
+        }
+    }
+}
+
+fn words(model: &Model) -> Vec<u32> {
+    let mut words = Vec::new();
+    encode(&model.domain, &mut words);
+    words
+}
+
+pub fn all(params: Params) {
+    for domains in [1, 64] {
+        let plan = Plan::new(params, domains);
+        let name = |what: &str| {
+            format!(
+                "{params}, {what}, {domains} domain{}",
+                if domains == 1 { "" } else { "s" }
+            )
+        };
+        steps(&name("check alone"), &plan.start, &plan.unknown());
+        steps(&name("step"), &plan.start, &plan.schedule);
+        count(&name("reachable count"), &plan.start);
+        if domains == 1 {
+            run(&format!("{params}, run of {STEPS}"), &plan.start[0], &plan.schedule);
+        }
+    }
+}
+
+fn steps(name: &str, start: &[Vec<u32>], schedule: &[(usize, Step)]) {
+    let (mut library, mut plain) = (
+        Steps::new(&QSENSE, start, schedule),
+        Steps::new(&PLAIN, start, schedule),
+    );
+    let best = race(ROUNDS, STEPS, &mut [&mut library, &mut plain]);
+    let model = race(MODEL_ROUNDS, STEPS, &mut [&mut ModelSteps::new(start, schedule)])[0];
+    println!(
+        "{name:44}{:>10.1}{:>10.1}{model:>10.1}{:>12.2}{:>10.2}",
+        best[0],
+        best[1],
+        best[0] / best[1],
+        model / best[1]
+    );
+}
+
+fn count(name: &str, domains: &[Vec<u32>]) {
+    let [mut library, mut plain] = [&QSENSE, &PLAIN].map(|calls| Counts {
+        calls,
+        domains,
+        turns: STEPS,
+    });
+    line(name, &race(ROUNDS, STEPS, &mut [&mut library, &mut plain]));
+}
+
+/// A run by the library, by C that checks before each step, and by C that checks once and trusts itself.
+pub fn run(name: &str, start: &[u32], schedule: &[(usize, Step)]) {
+    let steps: Vec<u32> = schedule.iter().flat_map(|(_, step)| step.numbers()).collect();
+    let [mut library, mut plain, mut trusting] =
+        [&QSENSE, &PLAIN, &TRUSTING].map(|calls| Run::new(calls, start, &steps));
+    let contenders: &mut [&mut dyn Work] = &mut [&mut library, &mut plain, &mut trusting];
+    let best = race(ROUNDS, schedule.len(), contenders);
+    line(name, &best[..2]);
+    line(&format!("{name}, C checks once"), &[best[0], best[2]]);
+}
+
+/// The library's time and plain C's.
+pub fn line(name: &str, best: &[f64]) {
+    println!(
+        "{name:44}{:>10.1}{:>10.1}{:>10}{:>12.2}",
+        best[0],
+        best[1],
+        "",
+        best[0] / best[1]
+    );
+}
