@@ -1,9 +1,10 @@
 //! Step books and their print, by the paper: bytes from steps, steps from bytes, and what the model answers.
 
+use crate::library::Calls;
 use crate::model::mistake::Rules;
 use crate::model::Model;
 use crate::params::Params;
-use crate::step::Step;
+use crate::step::{Answer, Step};
 use std::fmt::Write;
 
 pub const MARK: &[u8; 4] = b"QBAK";
@@ -67,27 +68,68 @@ fn step(bytes: &[u8]) -> Step {
     }
 }
 
+/// What takes the steps of a book.
+trait Desk {
+    /// The answer, and the panel after it.
+    fn take(&mut self, step: Step) -> (Answer, u32);
+    /// Clock, path and panel.
+    fn end(&self) -> [u32; 3];
+}
+
+impl Desk for Model {
+    fn take(&mut self, step: Step) -> (Answer, u32) {
+        (self.step(step), self.domain.reachable())
+    }
+
+    fn end(&self) -> [u32; 3] {
+        [self.domain.clock, self.domain.path as u32, self.domain.reachable()]
+    }
+}
+
+struct Words<'a> {
+    calls: &'a Calls,
+    words: Vec<u32>,
+}
+
+impl Desk for Words<'_> {
+    fn take(&mut self, step: Step) -> (Answer, u32) {
+        (
+            self.calls.step(&mut self.words, step),
+            self.calls.reachable(&self.words).value,
+        )
+    }
+
+    fn end(&self) -> [u32; 3] {
+        [self.words[6], self.words[7], self.calls.reachable(&self.words).value]
+    }
+}
+
 /// What `desk` is to print for these bytes.
 pub fn print(bytes: &[u8]) -> String {
+    print_by(bytes, |params| Model::fresh(params, Rules::default()))
+}
+
+/// The same by the library's calls.
+pub fn print_by_calls(calls: &Calls, bytes: &[u8]) -> String {
+    print_by(bytes, |params| {
+        let mut words = vec![0; params.word_count()];
+        calls.make(&mut words, params);
+        Words { calls, words }
+    })
+}
+
+fn print_by<D: Desk>(bytes: &[u8], fresh: impl Fn(Params) -> D) -> String {
     let (params, steps) = match read(bytes) {
         Ok(book) => book,
         Err(number) => return format!("refused {number}\n"),
     };
+    let mut desk = fresh(params);
     let mut text = format!("desk {params}\n");
-    let mut model = Model::fresh(params, Rules::default());
     for (number, step) in steps.into_iter().enumerate() {
-        let answer = model.step(step);
-        let panel = model.domain.reachable();
+        let (answer, panel) = desk.take(step);
         writeln!(text, "{number} {} {answer} {panel}", step.kind).expect("a string");
     }
-    let domain = &model.domain;
-    writeln!(
-        text,
-        "end {} {} {}",
-        domain.clock,
-        domain.path as u32,
-        domain.reachable()
-    )
-    .expect("a string");
+    let [clock, path, panel] = desk.end();
+    writeln!(text, "end {clock} {path} {panel}").expect("a string");
     text
 }

@@ -109,8 +109,11 @@ pub fn same(call: &str, answer: Answer, lent: &Lent, expected_answer: Answer, ex
 
 /// What the word at this index is part of.
 fn place(words: &[u32], index: usize) -> String {
-    let (processes, width) = (words[0] as usize, 28 + 3 * words[1] as usize);
-    let nodes = 9 + processes * width;
+    let Some(params) = words::decode(words, Rules::default()).map(|domain| domain.params) else {
+        return format!("word {index}");
+    };
+    let width = 28 + 3 * params.hazards as usize;
+    let nodes = 9 + params.processes as usize * width;
     match index {
         0..9 => format!("word {index} of the head"),
         _ if index < nodes => format!("word {} of process {}", (index - 9) % width, (index - 9) / width),

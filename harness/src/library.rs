@@ -25,7 +25,6 @@ extern "C" {
 }
 
 pub struct Calls {
-    pub name: &'static str,
     length: Length,
     make: Make,
     step: StepCall,
@@ -34,7 +33,6 @@ pub struct Calls {
 }
 
 pub static QSENSE: Calls = Calls {
-    name: "library",
     length: qsense_length,
     make: qsense_make,
     step: qsense_step,
@@ -43,7 +41,6 @@ pub static QSENSE: Calls = Calls {
 };
 
 pub static PLAIN: Calls = Calls {
-    name: "plain C",
     length: plain_length,
     make: plain_make,
     step: plain_step,
@@ -53,7 +50,6 @@ pub static PLAIN: Calls = Calls {
 
 /// Plain C whose run checks the words once.
 pub static TRUSTING: Calls = Calls {
-    name: "trusting C",
     run: plain_run_trusting,
     ..PLAIN
 };

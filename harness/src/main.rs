@@ -1,12 +1,14 @@
-//! harness test (--desk PATH | --without-desk) [--examples FOLDER] [--seed N] [--steps N]
+//! harness test [--desk PATH] [--without-desk] [--examples FOLDER] [--seed N] [--steps N]
 //! harness soak SECONDS [--seed N]
-//! Compares the library with the model. The seed may also stand in the variable SEED. The last line is 'N passed, M failed'.
+//! Compares the library with the model, and what the program `desk` prints (at target/bin/desk, where PATH is not given) with what the
+//! model prints. --without-desk leaves the program out, but only where it is not there. The seed may also stand in the variable SEED.
+//! The last line is 'N passed, M failed'.
 
 use harness::coverage::Coverage;
 use harness::library::{PLAIN, QSENSE};
 use harness::model::mistake::Rules;
 use harness::report::Report;
-use harness::tests::{books, edges, make, malformed, mistakes, runs, schedules};
+use harness::tests::{books, edges, examples, make, malformed, mistakes, runs, schedules};
 use std::path::PathBuf;
 use std::process::ExitCode;
 use std::time::{Duration, Instant, SystemTime, UNIX_EPOCH};
@@ -15,7 +17,7 @@ struct Options {
     soak: Option<u64>,
     seed: Option<u64>,
     steps: u64,
-    desk: Option<PathBuf>,
+    desk: PathBuf,
     without_desk: bool,
     examples: PathBuf,
 }
@@ -48,8 +50,8 @@ fn options() -> Result<Options, String> {
     let mut options = Options {
         soak: None,
         seed,
-        steps: 1_500_000,
-        desk: None,
+        steps: 3_000_000,
+        desk: "target/bin/desk".into(),
         without_desk: false,
         examples: "examples".into(),
     };
@@ -62,16 +64,13 @@ fn options() -> Result<Options, String> {
         match word.as_str() {
             "--seed" => options.seed = Some(number("--seed", words.next())?),
             "--steps" => options.steps = number("--steps", words.next())?,
-            "--desk" => options.desk = Some(words.next().ok_or("--desk needs a path")?.into()),
+            "--desk" => options.desk = words.next().ok_or("--desk needs a path")?.into(),
             "--without-desk" => options.without_desk = true,
             "--examples" => options.examples = words.next().ok_or("--examples needs a folder")?.into(),
             other => return Err(format!("unknown word {other}")),
         }
     }
-    match options.soak.is_some() || options.desk.is_some() || options.without_desk {
-        true => Ok(options),
-        false => Err("say where the program is, by --desk PATH, or --without-desk".into()),
-    }
+    Ok(options)
 }
 
 fn now() -> u64 {
@@ -113,8 +112,11 @@ fn test(options: &Options) -> ExitCode {
     report.test("plain C, the benchmark's baseline", || {
         schedules::fresh(&PLAIN, seed, 100_000, &mut Coverage::default())
     });
-    if let Some(desk) = &options.desk {
-        books::all(&mut report, desk, &options.examples, seed);
+    examples::all(&mut report, &QSENSE, &options.examples);
+    if options.without_desk && !options.desk.exists() {
+        println!("left out: books through {}", options.desk.display());
+    } else {
+        books::all(&mut report, &options.desk, &options.examples, seed);
     }
     report.finish()
 }

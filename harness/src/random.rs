@@ -26,12 +26,12 @@ impl Random {
 
     /// A number below `limit`, which is not 0.
     pub fn below(&mut self, limit: u32) -> u32 {
-        (u64::from(self.word()) * u64::from(limit) >> 32) as u32
+        ((u64::from(self.word()) * u64::from(limit)) >> 32) as u32
     }
 
     /// A number from 0 to `limit`.
     pub fn up_to(&mut self, limit: u32) -> u32 {
-        (u64::from(self.word()) * (u64::from(limit) + 1) >> 32) as u32
+        ((u64::from(self.word()) * (u64::from(limit) + 1)) >> 32) as u32
     }
 
     /// True in `percent` of a hundred cases.

@@ -114,9 +114,4 @@ impl Kind {
     pub fn reads_guest(self) -> bool {
         self == Allocate
     }
-
-    /// Whether the value of an accepted step is a count of freed nodes.
-    pub fn frees(self) -> bool {
-        matches!(self, Retire | Manage)
-    }
 }

@@ -1,5 +1,6 @@
 //! Books through the built `desk`: what it prints is what the model prints.
 
+use super::examples;
 use crate::book::{print, trailer, write, GREATEST, MOST_STEPS};
 use crate::model::mistake::Rules;
 use crate::model::Model;
@@ -15,7 +16,7 @@ use std::process::{Command, Output, Stdio};
 
 type Outcome = Result<String, String>;
 
-pub fn all(report: &mut Report, desk: &Path, examples: &Path, seed: u64) {
+pub fn all(report: &mut Report, desk: &Path, folder: &Path, seed: u64) {
     let mut test =
         |name: &str, test: &dyn Fn(&Path, u64) -> Outcome| report.test(&format!("desk: {name}"), || test(desk, seed));
     test("random books", &random_books);
@@ -32,9 +33,9 @@ pub fn all(report: &mut Report, desk: &Path, examples: &Path, seed: u64) {
     test("65,536 and 65,537 bytes", &longest);
     test("in small chunks", &chunks);
     test("unreadable input", &unreadable);
-    for name in ["first", "fallback", "kept", "epoch"] {
+    for name in examples::NAMES {
         test(&format!("examples/{name}.book"), &|desk, _| {
-            example(desk, &examples.join(name))
+            same(desk, &examples::read(folder, name)?.0)
         });
     }
 }
@@ -288,16 +289,4 @@ fn unreadable(desk: &Path, _: u64) -> Outcome {
             String::from_utf8_lossy(&output.stdout)
         )),
     }
-}
-
-/// A book of the examples prints what stands beside it, by the model too.
-fn example(desk: &Path, path: &Path) -> Outcome {
-    let read = |extension| {
-        std::fs::read(path.with_extension(extension)).map_err(|error| format!("{}: {error}", path.display()))
-    };
-    let (book, expected) = (read("book")?, read("out")?);
-    if print(&book).as_bytes() != expected {
-        return Err("the model prints something else".into());
-    }
-    same(desk, &book)
 }

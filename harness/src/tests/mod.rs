@@ -2,6 +2,7 @@
 
 pub mod books;
 pub mod edges;
+pub mod examples;
 pub mod make;
 pub mod malformed;
 pub mod mistakes;
