@@ -47,29 +47,34 @@ static uint32_t *node_at(uint32_t *w, uint32_t c) {
 
 /* The check */
 
-static bool process_well_formed(const uint32_t *w, const uint32_t *p) {
-    if (p[LOCAL_EPOCH] > 2 || p[CALLS] >= w[Q] || p[PRESENCE] > 1 || p[PENDING] > STORES) return false;
+/* What the words of processes and nodes are held against. */
+typedef struct {
+    uint32_t n, k, m, q, clock;
+} limits;
+
+static bool process_well_formed(const uint32_t *p, limits l) {
+    if (p[LOCAL_EPOCH] > 2 || p[CALLS] >= l.q || p[PRESENCE] > 1 || p[PENDING] > STORES) return false;
     const uint32_t *h = p + PROCESS;
-    for (uint32_t i = 0; i < w[K]; i++, h += HAZARD) {
-        if (h[VISIBLE] > w[M] || h[ASSIGNED] > w[M] || h[VALIDATED] > 1) return false;
+    for (uint32_t i = 0; i < l.k; i++, h += HAZARD) {
+        if (h[VISIBLE] > l.m || h[ASSIGNED] > l.m || h[VALIDATED] > 1) return false;
         if (h[VALIDATED] == 1 && h[ASSIGNED] == 0) return false;
     }
     const uint32_t *s = h;
     uint32_t i = 0;
     for (; i < p[PENDING]; i++, s += STORE)
-        if (s[STORE_HAZARD] >= w[K] || s[STORE_NODE] > w[M] || s[STORE_TIME] > w[CLOCK]) return false;
+        if (s[STORE_HAZARD] >= l.k || s[STORE_NODE] > l.m || s[STORE_TIME] > l.clock) return false;
     for (; i < STORES; i++, s += STORE)
         if ((s[STORE_HAZARD] | s[STORE_NODE] | s[STORE_TIME]) != 0) return false;
     return true;
 }
 
-static bool node_well_formed(const uint32_t *w, const uint32_t *x) {
+static bool node_well_formed(const uint32_t *x, limits l) {
     switch (x[STATE]) {
     case FREE: return (x[OWNER] | x[GUEST] | x[RETIRED_AT] | x[LIMBO]) == 0;
     case ALLOCATED:
-    case REMOVED: return x[OWNER] < w[N] && (x[RETIRED_AT] | x[LIMBO]) == 0;
+    case REMOVED: return x[OWNER] < l.n && (x[RETIRED_AT] | x[LIMBO]) == 0;
     case REACHABLE: return (x[OWNER] | x[RETIRED_AT] | x[LIMBO]) == 0;
-    case RETIRED: return x[OWNER] < w[N] && x[RETIRED_AT] <= w[CLOCK] && x[LIMBO] <= 2;
+    case RETIRED: return x[OWNER] < l.n && x[RETIRED_AT] <= l.clock && x[LIMBO] <= 2;
     default: return false;
     }
 }
@@ -79,11 +84,12 @@ static bool well_formed(const uint32_t *w, size_t len) {
     if (!within(w[T], 1, 1000) || !within(w[Q], 1, 1000) || !within(w[C], 1, 256)) return false;
     if (w[PATH] > FALLBACK || w[EPOCH] > 2) return false;
     if (len != plain_length(w[N], w[K], w[M])) return false;
+    limits l = {w[N], w[K], w[M], w[Q], w[CLOCK]};
     const uint32_t *at = w + HEAD;
-    for (uint32_t p = 0; p < w[N]; p++, at += process_width(w[K]))
-        if (!process_well_formed(w, at)) return false;
-    for (uint32_t c = 0; c < w[M]; c++, at += NODE)
-        if (!node_well_formed(w, at)) return false;
+    for (uint32_t p = 0; p < l.n; p++, at += process_width(l.k))
+        if (!process_well_formed(at, l)) return false;
+    for (uint32_t c = 0; c < l.m; c++, at += NODE)
+        if (!node_well_formed(at, l)) return false;
     return true;
 }
 

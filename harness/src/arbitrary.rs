@@ -16,11 +16,7 @@ pub fn domain(random: &mut Random, params: Params) -> Domain {
     Domain {
         params,
         clock,
-        path: if shape.random.chance(50) {
-            Path::Fast
-        } else {
-            Path::Fallback
-        },
+        path: if shape.random.chance(50) { Path::Fast } else { Path::Fallback },
         epoch: shape.random.below(3),
         processes: (0..params.processes).map(|_| shape.process()).collect(),
         nodes: (0..params.nodes).map(|_| shape.node()).collect(),
@@ -48,11 +44,7 @@ impl Shape<'_> {
 
     fn hazard(&mut self, idle: bool) -> Hazard {
         let assigned = if idle { None } else { self.stored() };
-        Hazard {
-            visible: self.stored(),
-            assigned,
-            validated: assigned.is_some() && self.random.chance(50),
-        }
+        Hazard { visible: self.stored(), assigned, validated: assigned.is_some() && self.random.chance(50) }
     }
 
     fn stored(&mut self) -> Option<u32> {
@@ -60,11 +52,7 @@ impl Shape<'_> {
     }
 
     fn store(&mut self) -> Store {
-        Store {
-            hazard: self.random.below(self.params.hazards),
-            node: self.stored(),
-            time: self.time(),
-        }
+        Store { hazard: self.random.below(self.params.hazards), node: self.stored(), time: self.time() }
     }
 
     /// A time at most the clock, mostly about the visibility bound ago.
@@ -72,9 +60,7 @@ impl Shape<'_> {
         match self.random.below(4) {
             0 => self.random.up_to(self.clock),
             1 => self.clock,
-            _ => self
-                .clock
-                .saturating_sub(self.random.up_to(self.params.visibility_bound + 1)),
+            _ => self.clock.saturating_sub(self.random.up_to(self.params.visibility_bound + 1)),
         }
     }
 
@@ -86,12 +72,7 @@ impl Shape<'_> {
             1 => Node::Allocated { owner, guest },
             2 => Node::Reachable { guest },
             3 => Node::Removed { owner, guest },
-            _ => Node::Retired {
-                owner,
-                guest,
-                retired_at: self.time(),
-                limbo: self.random.below(3),
-            },
+            _ => Node::Retired { owner, guest, retired_at: self.time(), limbo: self.random.below(3) },
         }
     }
 }

@@ -15,11 +15,7 @@ pub const MOST_STEPS: usize = (GREATEST - 36) / 12;
 
 /// A book of these steps, whose kind, process and hazard fit a byte; `unread` goes to the byte that nobody reads.
 pub fn write(params: Params, steps: &[Step], unread: u8) -> Vec<u8> {
-    let mut bytes: Vec<u8> = params
-        .numbers()
-        .iter()
-        .flat_map(|number| number.to_le_bytes())
-        .collect();
+    let mut bytes: Vec<u8> = params.numbers().iter().flat_map(|number| number.to_le_bytes()).collect();
     for step in steps {
         bytes.extend([step.kind as u8, step.process as u8, step.hazard as u8, unread]);
         bytes.extend(step.node.to_le_bytes());
@@ -59,13 +55,7 @@ fn word(bytes: &[u8], at: usize) -> u32 {
 
 fn step(bytes: &[u8]) -> Step {
     let [kind, process, hazard] = [bytes[0], bytes[1], bytes[2]].map(u32::from);
-    Step {
-        kind,
-        process,
-        hazard,
-        node: word(bytes, 4),
-        guest: word(bytes, 8),
-    }
+    Step { kind, process, hazard, node: word(bytes, 4), guest: word(bytes, 8) }
 }
 
 /// What takes the steps of a book.
@@ -93,10 +83,7 @@ struct Words<'a> {
 
 impl Desk for Words<'_> {
     fn take(&mut self, step: Step) -> (Answer, u32) {
-        (
-            self.calls.step(&mut self.words, step),
-            self.calls.reachable(&self.words).value,
-        )
+        (self.calls.step(&mut self.words, step), self.calls.reachable(&self.words).value)
     }
 
     fn end(&self) -> [u32; 3] {

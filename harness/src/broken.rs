@@ -28,10 +28,7 @@ pub const CONDITIONS: [&str; 12] = [
 
 /// The single words that break a domain's words, by the range that the rest of the domain leaves to each.
 pub fn every_word(domain: &Domain) -> Vec<Broken> {
-    let mut walk = Walk {
-        index: 0,
-        broken: Vec::new(),
-    };
+    let mut walk = Walk { index: 0, broken: Vec::new() };
     walk.head(domain);
     for process in &domain.processes {
         walk.at_most(2, "in range");
@@ -72,11 +69,7 @@ struct Walk {
 
 impl Walk {
     fn push(&mut self, value: u32, condition: &'static str) {
-        self.broken.push(Broken {
-            index: self.index,
-            value,
-            condition,
-        });
+        self.broken.push(Broken { index: self.index, value, condition });
     }
 
     /// The next word, which may be `least` to `most`.

@@ -38,13 +38,7 @@ impl<'a> Lockstep<'a> {
     pub fn from(calls: &'a Calls, rules: Rules, domain: Domain) -> Lockstep<'a> {
         let mut expected = Vec::new();
         words::encode(&domain, &mut expected);
-        Lockstep {
-            calls,
-            model: Model { rules, domain },
-            lent: Lent::new(&expected),
-            expected,
-            reference: None,
-        }
+        Lockstep { calls, model: Model { rules, domain }, lent: Lent::new(&expected), expected, reference: None }
     }
 
     pub fn step(&mut self, step: Step, coverage: &mut Coverage) -> Result<(), String> {
@@ -55,9 +49,7 @@ impl<'a> Lockstep<'a> {
         let panel = self.calls.reachable(self.lent.words());
         self.agree("reachable", panel, Answer::accepted(self.model.domain.reachable()))?;
         if let Some(reference) = &mut self.reference {
-            reference
-                .follow(step, answer, self.lent.words())
-                .map_err(|e| format!("reference: {e}"))?;
+            reference.follow(step, answer, self.lent.words()).map_err(|e| format!("reference: {e}"))?;
         }
         coverage.after(&self.model.domain, step, answer);
         Ok(())
@@ -73,13 +65,7 @@ impl<'a> Lockstep<'a> {
 pub fn on_words(calls: &Calls, rules: Rules, start: &[u32], step: Step) -> Result<Answer, String> {
     let mut lent = Lent::new(start);
     let mut expected = start.to_vec();
-    same(
-        "reachable",
-        calls.reachable(lent.words()),
-        &lent,
-        reachable_words(start, rules),
-        start,
-    )?;
+    same("reachable", calls.reachable(lent.words()), &lent, reachable_words(start, rules), start)?;
     let expected_answer = step_words(&mut expected, step, rules);
     let answer = calls.step(lent.words_mut(), step);
     same("step", answer, &lent, expected_answer, &expected)?;
@@ -92,12 +78,7 @@ pub fn same(call: &str, answer: Answer, lent: &Lent, expected_answer: Answer, ex
         return Err(format!("{call}: {answer}, expected {expected_answer}"));
     }
     if lent.words() != expected {
-        let at = lent
-            .words()
-            .iter()
-            .zip(expected)
-            .position(|(x, y)| x != y)
-            .expect("a word that differs");
+        let at = lent.words().iter().zip(expected).position(|(x, y)| x != y).expect("a word that differs");
         let (word, right) = (lent.words()[at], expected[at]);
         return Err(format!("{call}: {} is {word}, expected {right}", place(expected, at)));
     }

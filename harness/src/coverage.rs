@@ -27,13 +27,8 @@ impl Coverage {
     /// Notes what is about to be changed by a step.
     pub fn before(&mut self, domain: &Domain, step: Step) {
         self.path = Some(domain.path);
-        self.pending = domain
-            .processes
-            .get(step.process as usize)
-            .map_or(0, |process| process.buffer.len());
-        self.validated = domain
-            .all_hazards()
-            .any(|hazard| hazard.validated && hazard.assigned == Some(step.node));
+        self.pending = domain.processes.get(step.process as usize).map_or(0, |process| process.buffer.len());
+        self.validated = domain.all_hazards().any(|hazard| hazard.validated && hazard.assigned == Some(step.node));
     }
 
     /// Counts a step that was answered so and left this domain.
@@ -69,9 +64,7 @@ impl Coverage {
 
     /// Every count with its name.
     pub fn counts(&self) -> Vec<(String, u64)> {
-        let kinds = Kind::ALL
-            .iter()
-            .map(|&kind| (format!("accepted {kind:?}"), self.accepted[kind as usize]));
+        let kinds = Kind::ALL.iter().map(|&kind| (format!("accepted {kind:?}"), self.accepted[kind as usize]));
         let numbers = (3..=17).map(|number| (format!("refused {number}"), self.refused[number]));
         let others = [
             ("switched to fallback", self.to_fallback),

@@ -32,27 +32,14 @@ pub struct Calls {
     run: Run,
 }
 
-pub static QSENSE: Calls = Calls {
-    length: qsense_length,
-    make: qsense_make,
-    step: qsense_step,
-    reachable: qsense_reachable,
-    run: qsense_run,
-};
+pub static QSENSE: Calls =
+    Calls { length: qsense_length, make: qsense_make, step: qsense_step, reachable: qsense_reachable, run: qsense_run };
 
-pub static PLAIN: Calls = Calls {
-    length: plain_length,
-    make: plain_make,
-    step: plain_step,
-    reachable: plain_reachable,
-    run: plain_run,
-};
+pub static PLAIN: Calls =
+    Calls { length: plain_length, make: plain_make, step: plain_step, reachable: plain_reachable, run: plain_run };
 
 /// Plain C whose run checks the words once.
-pub static TRUSTING: Calls = Calls {
-    run: plain_run_trusting,
-    ..PLAIN
-};
+pub static TRUSTING: Calls = Calls { run: plain_run_trusting, ..PLAIN };
 
 impl Calls {
     pub fn length(&self, n: u32, k: u32, m: u32) -> u32 {
@@ -82,11 +69,8 @@ impl Calls {
     pub fn on_nothing(&self) -> ([Answer; 3], bool) {
         let (none, no) = (std::ptr::null_mut(), std::ptr::null());
         unsafe {
-            let answers = [
-                (self.make)(none, 0, 1, 1, 1, 1, 1, 1),
-                (self.step)(none, 0, 13, 0, 0, 0, 0),
-                (self.reachable)(no, 0),
-            ];
+            let answers =
+                [(self.make)(none, 0, 1, 1, 1, 1, 1, 1), (self.step)(none, 0, 13, 0, 0, 0, 0), (self.reachable)(no, 0)];
             (answers, (self.run)(none, 0, no, 0, none, 0))
         }
     }
@@ -116,9 +100,6 @@ impl Lent {
     /// Whether nothing was written beside the words.
     pub fn is_intact(&self) -> bool {
         let end = self.0.len() - GUARD;
-        self.0[..GUARD]
-            .iter()
-            .chain(&self.0[end..])
-            .all(|&word| word == GUARD_WORD)
+        self.0[..GUARD].iter().chain(&self.0[end..]).all(|&word| word == GUARD_WORD)
     }
 }

@@ -24,11 +24,7 @@ struct Options {
 
 fn main() -> ExitCode {
     match options() {
-        Ok(Options {
-            soak: Some(seconds),
-            seed,
-            ..
-        }) => soak(seconds, seed.unwrap_or_else(now)),
+        Ok(Options { soak: Some(seconds), seed, .. }) => soak(seconds, seed.unwrap_or_else(now)),
         Ok(options) => test(&options),
         Err(wrong) => {
             eprintln!("harness: {wrong}");
@@ -40,13 +36,9 @@ fn main() -> ExitCode {
 fn options() -> Result<Options, String> {
     let mut words = std::env::args().skip(1);
     let number = |name: &str, text: Option<String>| -> Result<u64, String> {
-        text.and_then(|text| text.parse().ok())
-            .ok_or(format!("{name} needs a number"))
+        text.and_then(|text| text.parse().ok()).ok_or(format!("{name} needs a number"))
     };
-    let seed = std::env::var("SEED")
-        .ok()
-        .map(|text| number("SEED", Some(text)))
-        .transpose()?;
+    let seed = std::env::var("SEED").ok().map(|text| number("SEED", Some(text))).transpose()?;
     let mut options = Options {
         soak: None,
         seed,
@@ -74,40 +66,24 @@ fn options() -> Result<Options, String> {
 }
 
 fn now() -> u64 {
-    SystemTime::now()
-        .duration_since(UNIX_EPOCH)
-        .map_or(1, |time| time.as_secs())
+    SystemTime::now().duration_since(UNIX_EPOCH).map_or(1, |time| time.as_secs())
 }
 
 fn test(options: &Options) -> ExitCode {
-    let (seed, mut report, mut coverage) = (
-        options.seed.unwrap_or(20_260_101),
-        Report::default(),
-        Coverage::default(),
-    );
+    let (seed, mut report, mut coverage) = (options.seed.unwrap_or(20_260_101), Report::default(), Coverage::default());
     println!("seed {seed}");
     report.test("length", || make::length(&QSENSE));
     report.test("make", || make::make(&QSENSE, seed));
     edges::all(&mut report, &QSENSE);
-    report.test("runs from fresh domains", || {
-        schedules::fresh(&QSENSE, seed, options.steps, &mut coverage)
-    });
-    report.test("arbitrary domains", || {
-        schedules::arbitrary(&QSENSE, seed, options.steps / 5, &mut coverage)
-    });
+    report.test("runs from fresh domains", || schedules::fresh(&QSENSE, seed, options.steps, &mut coverage));
+    report.test("arbitrary domains", || schedules::arbitrary(&QSENSE, seed, options.steps / 5, &mut coverage));
     report.test("one word broken", || malformed::one_word(&QSENSE, seed, &mut coverage));
-    report.test("random words", || {
-        malformed::some_words(&QSENSE, Rules::default(), seed, 30_000, &mut coverage)
-    });
-    report.test("slices short, long and empty", || {
-        malformed::lengths(&QSENSE, Rules::default(), seed, &mut coverage)
-    });
+    report.test("random words", || malformed::some_words(&QSENSE, Rules::default(), seed, 30_000, &mut coverage));
+    report.test("slices short, long and empty", || malformed::lengths(&QSENSE, Rules::default(), seed, &mut coverage));
     report.test("no words at all", || malformed::nothing(&QSENSE));
-    report.test("every count met", || schedules::covered(&coverage, 500));
+    report.test("every count met", || schedules::covered(&coverage, options.steps / 6_000));
     report.test("run as steps one by one", || runs::one_by_one(&QSENSE, seed, 3_000));
-    report.test("run with lengths that do not fit", || {
-        runs::wrong_lengths(&QSENSE, seed)
-    });
+    report.test("run with lengths that do not fit", || runs::wrong_lengths(&QSENSE, seed));
     mistakes::all(&mut report, &QSENSE, seed);
     report.test("plain C, the benchmark's baseline", || {
         schedules::fresh(&PLAIN, seed, 100_000, &mut Coverage::default())
@@ -127,12 +103,8 @@ fn soak(seconds: u64, first_seed: u64) -> ExitCode {
     let mut seed = first_seed;
     while start.elapsed() < Duration::from_secs(seconds) {
         let rules = Rules::default();
-        report.test(&format!("seed {seed}, runs"), || {
-            schedules::fresh(&QSENSE, seed, 1_000_000, &mut coverage)
-        });
-        report.test(&format!("seed {seed}, domains"), || {
-            schedules::arbitrary(&QSENSE, seed, 300_000, &mut coverage)
-        });
+        report.test(&format!("seed {seed}, runs"), || schedules::fresh(&QSENSE, seed, 1_000_000, &mut coverage));
+        report.test(&format!("seed {seed}, domains"), || schedules::arbitrary(&QSENSE, seed, 300_000, &mut coverage));
         report.test(&format!("seed {seed}, words"), || {
             malformed::some_words(&QSENSE, rules, seed, 100_000, &mut coverage)
         });

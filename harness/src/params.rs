@@ -21,14 +21,7 @@ impl Params {
     pub fn from_numbers(
         [processes, hazards, nodes, visibility_bound, quiescence_threshold, fallback_threshold]: [u32; 6],
     ) -> Params {
-        Params {
-            processes,
-            hazards,
-            nodes,
-            visibility_bound,
-            quiescence_threshold,
-            fallback_threshold,
-        }
+        Params { processes, hazards, nodes, visibility_bound, quiescence_threshold, fallback_threshold }
     }
 
     pub fn numbers(self) -> [u32; 6] {
@@ -43,10 +36,7 @@ impl Params {
     }
 
     pub fn in_range(self) -> bool {
-        self.numbers()
-            .iter()
-            .zip(LIMITS)
-            .all(|(&x, limit)| (1..=limit).contains(&x))
+        self.numbers().iter().zip(LIMITS).all(|(&x, limit)| (1..=limit).contains(&x))
     }
 
     /// How many words a domain takes; for parameters in range.

@@ -68,11 +68,7 @@ impl Reference {
         match step.kind {
             1 => {
                 self.asks(step.node, FREE)?;
-                self.cells[step.node as usize] = Cell {
-                    state: ALLOCATED,
-                    owner: step.process,
-                    guest: step.guest,
-                };
+                self.cells[step.node as usize] = Cell { state: ALLOCATED, owner: step.process, guest: step.guest };
             }
             2 => {
                 self.asks_owned(step, ALLOCATED)?;
@@ -94,10 +90,7 @@ impl Reference {
             8 => {
                 self.asks_owned(step, REMOVED)?;
                 self.turn(step.node, RETIRED, step.process);
-                self.retirements.push(Retirement {
-                    process: step.process,
-                    clock: self.clock,
-                });
+                self.retirements.push(Retirement { process: step.process, clock: self.clock });
             }
             11 => self.clock += 1,
             _ => {}
@@ -121,10 +114,7 @@ impl Reference {
     fn asks(&self, node: u32, state: u32) -> Result<(), String> {
         match self.cells[node as usize].state == state {
             true => Ok(()),
-            false => Err(format!(
-                "node {node} is in state {}, not {state}",
-                self.cells[node as usize].state
-            )),
+            false => Err(format!("node {node} is in state {}, not {state}", self.cells[node as usize].state)),
         }
     }
 
@@ -170,12 +160,7 @@ impl Reference {
             return Err(format!("{count} freed, but {} turned Free", freed.len()));
         }
         for id in freed {
-            if self
-                .pointers
-                .iter()
-                .flatten()
-                .any(|p| p.assigned as usize == id + 1 && p.validated == 1)
-            {
+            if self.pointers.iter().flatten().any(|p| p.assigned as usize == id + 1 && p.validated == 1) {
                 return Err(format!("node {id} was freed under a process that has validated it"));
             }
             self.cells[id] = Cell::default();
@@ -195,10 +180,7 @@ impl Reference {
         for (id, cell) in self.cells.iter().enumerate() {
             let at = self.node_at(id);
             if [cell.state, cell.owner, cell.guest] != words[at..at + 3] {
-                return Err(format!(
-                    "node {id} is {cell:?}, and {:?} in the words",
-                    &words[at..at + 3]
-                ));
+                return Err(format!("node {id} is {cell:?}, and {:?} in the words", &words[at..at + 3]));
             }
         }
         for (process, pointers) in self.pointers.iter().enumerate() {
@@ -217,25 +199,15 @@ impl Reference {
 
     /// At most max(C - 1, N x K + nodes that the process retired at most T ticks ago) of its nodes are unfreed.
     fn bounded(&self, process: u32) -> Result<(), String> {
-        let unfreed = self
-            .cells
-            .iter()
-            .filter(|cell| cell.state == RETIRED && cell.owner == process)
-            .count() as u32;
+        let unfreed = self.cells.iter().filter(|cell| cell.state == RETIRED && cell.owner == process).count() as u32;
         let since = self.clock.saturating_sub(self.params.visibility_bound);
-        let recent = self
-            .retirements
-            .iter()
-            .rev()
-            .take_while(|retirement| retirement.clock >= since);
+        let recent = self.retirements.iter().rev().take_while(|retirement| retirement.clock >= since);
         let recent = recent.filter(|retirement| retirement.process == process).count() as u32;
         let visible = self.params.processes * self.params.hazards;
         let bound = (self.params.fallback_threshold - 1).max(visible + recent);
         match unfreed <= bound {
             true => Ok(()),
-            false => Err(format!(
-                "process {process} has {unfreed} unfreed nodes, above the bound of {bound}"
-            )),
+            false => Err(format!("process {process} has {unfreed} unfreed nodes, above the bound of {bound}")),
         }
     }
 }

@@ -27,20 +27,12 @@ impl Mood {
         if random.chance(50) {
             weights[Kind::ClearPresence as usize - 1] = 0;
         }
-        Mood {
-            weights,
-            accepted_percent: *random.of(&[70, 90, 97]),
-            unread_percent: *random.of(&[0, 30]),
-        }
+        Mood { weights, accepted_percent: *random.of(&[70, 90, 97]), unread_percent: *random.of(&[0, 30]) }
     }
 
     /// A mood in which nearly all steps are accepted, and fields that are not read are 0.
     pub fn steady() -> Mood {
-        Mood {
-            weights: WEIGHTS,
-            accepted_percent: 100,
-            unread_percent: 0,
-        }
+        Mood { weights: WEIGHTS, accepted_percent: 100, unread_percent: 0 }
     }
 
     /// The next step for the model's domain.
@@ -81,11 +73,7 @@ fn likely(random: &mut Random, domain: &Domain, kind: Kind) -> Step {
     match kind {
         Kind::Allocate => {
             step.node = node_where(random, domain, |node| *node == Node::Free);
-            step.guest = if random.chance(10) {
-                random.word()
-            } else {
-                random.below(100)
-            };
+            step.guest = if random.chance(10) { random.word() } else { random.below(100) };
         }
         Kind::Publish => step.node = node_where(random, domain, |node| matches!(node, Node::Allocated { .. })),
         Kind::Remove => step.node = node_where(random, domain, |node| matches!(node, Node::Reachable { .. })),
@@ -125,9 +113,7 @@ fn process_where(random: &mut Random, domain: &Domain, fits: impl Fn(&Process) -
 
 fn at_hazard(random: &mut Random, domain: &Domain, step: &mut Step, fits: impl Fn(&Hazard) -> bool) {
     step.process = process_where(random, domain, |process| process.hazards.iter().any(&fits));
-    step.hazard = place_where(random, domain.params.hazards, |id| {
-        fits(domain.hazard(step.process, id))
-    });
+    step.hazard = place_where(random, domain.params.hazards, |id| fits(domain.hazard(step.process, id)));
 }
 
 /// Fields in and out of range, and now and then a kind that is none.

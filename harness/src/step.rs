@@ -36,13 +36,7 @@ pub struct Step {
 
 impl Step {
     pub fn new(kind: Kind, process: u32, hazard: u32, node: u32, guest: u32) -> Step {
-        Step {
-            kind: kind as u32,
-            process,
-            hazard,
-            node,
-            guest,
-        }
+        Step { kind: kind as u32, process, hazard, node, guest }
     }
 
     pub fn numbers(self) -> [u32; 5] {
@@ -79,21 +73,8 @@ pub enum Kind {
 use Kind::*;
 
 impl Kind {
-    pub const ALL: [Kind; 13] = [
-        Allocate,
-        Publish,
-        Protect,
-        Check,
-        Use,
-        Clear,
-        Remove,
-        Retire,
-        Drain,
-        Flush,
-        Tick,
-        Manage,
-        ClearPresence,
-    ];
+    pub const ALL: [Kind; 13] =
+        [Allocate, Publish, Protect, Check, Use, Clear, Remove, Retire, Drain, Flush, Tick, Manage, ClearPresence];
 
     pub fn from_number(number: u32) -> Option<Kind> {
         Kind::ALL.into_iter().find(|&kind| kind as u32 == number)

@@ -49,23 +49,10 @@ pub struct Store {
 #[derive(Clone, Debug, PartialEq)]
 pub enum Node {
     Free,
-    Allocated {
-        owner: u32,
-        guest: u32,
-    },
-    Reachable {
-        guest: u32,
-    },
-    Removed {
-        owner: u32,
-        guest: u32,
-    },
-    Retired {
-        owner: u32,
-        guest: u32,
-        retired_at: u32,
-        limbo: u32,
-    },
+    Allocated { owner: u32, guest: u32 },
+    Reachable { guest: u32 },
+    Removed { owner: u32, guest: u32 },
+    Retired { owner: u32, guest: u32, retired_at: u32, limbo: u32 },
 }
 
 impl Node {
@@ -134,9 +121,6 @@ impl Domain {
 
     /// The panel's number.
     pub fn reachable(&self) -> u32 {
-        self.nodes
-            .iter()
-            .filter(|node| matches!(node, Node::Reachable { .. }))
-            .count() as u32
+        self.nodes.iter().filter(|node| matches!(node, Node::Reachable { .. })).count() as u32
     }
 }

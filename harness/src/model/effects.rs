@@ -9,27 +9,13 @@ impl Model {
     /// Does an accepted step of this kind, and gives its value.
     pub(super) fn act(&mut self, kind: Kind, step: Step) -> u32 {
         match kind {
-            Kind::Allocate => {
-                *self.node(step) = Node::Allocated {
-                    owner: step.process,
-                    guest: step.guest,
-                }
-            }
-            Kind::Publish => {
-                *self.node(step) = Node::Reachable {
-                    guest: self.node(step).guest(),
-                }
-            }
+            Kind::Allocate => *self.node(step) = Node::Allocated { owner: step.process, guest: step.guest },
+            Kind::Publish => *self.node(step) = Node::Reachable { guest: self.node(step).guest() },
             Kind::Protect => self.assign(step, Some(step.node)),
             Kind::Check => self.hazard(step).validated = true,
             Kind::Use => return self.guest(step),
             Kind::Clear => self.assign(step, None),
-            Kind::Remove => {
-                *self.node(step) = Node::Removed {
-                    owner: step.process,
-                    guest: self.node(step).guest(),
-                }
-            }
+            Kind::Remove => *self.node(step) = Node::Removed { owner: step.process, guest: self.node(step).guest() },
             Kind::Retire => return self.retire(step),
             Kind::Drain => drain(self.process(step.process)),
             Kind::Flush => self.flush(step.process),
@@ -61,11 +47,7 @@ impl Model {
             return;
         }
         let time = self.domain.clock;
-        self.process(step.process).buffer.push_back(Store {
-            hazard: step.hazard,
-            node,
-            time,
-        });
+        self.process(step.process).buffer.push_back(Store { hazard: step.hazard, node, time });
     }
 
     fn guest(&self, step: Step) -> u32 {
@@ -87,12 +69,7 @@ impl Model {
     fn retire(&mut self, step: Step) -> u32 {
         let (owner, guest) = (step.process, self.node(step).guest());
         let (retired_at, limbo) = (self.domain.clock, self.domain.process(owner).epoch);
-        *self.node(step) = Node::Retired {
-            owner,
-            guest,
-            retired_at,
-            limbo,
-        };
+        *self.node(step) = Node::Retired { owner, guest, retired_at, limbo };
         if self.domain.path == Path::Fast {
             let retired = self.retired_by(owner);
             let needed = self.domain.params.fallback_threshold + self.rules.have(Mistake::SwitchesOverC) as u32;
@@ -137,13 +114,7 @@ impl Model {
     fn free_where(&mut self, due: impl Fn(u32, u32, u32, u32) -> bool) -> u32 {
         let mut freed = 0;
         for (id, node) in self.domain.nodes.iter_mut().enumerate() {
-            if let Node::Retired {
-                owner,
-                retired_at,
-                limbo,
-                ..
-            } = *node
-            {
+            if let Node::Retired { owner, retired_at, limbo, .. } = *node {
                 if due(id as u32, owner, retired_at, limbo) {
                     *node = Node::Free;
                     freed += 1;
@@ -178,12 +149,7 @@ impl Model {
             let list = (global + self.rules.have(Mistake::FreesTwoEpochsOn) as u32) % 3;
             return self.free_where(|_, owner, _, limbo| owner == id && limbo == list);
         }
-        let behind = self
-            .domain
-            .processes
-            .iter()
-            .filter(|process| process.epoch != global)
-            .count();
+        let behind = self.domain.processes.iter().filter(|process| process.epoch != global).count();
         if behind <= self.rules.have(Mistake::AdvancesWithOneBehind) as usize {
             self.domain.epoch = (global + 1) % 3;
         }

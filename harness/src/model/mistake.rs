@@ -72,11 +72,8 @@ impl Mistake {
     ];
 
     /// Those by which a process comes to hold more unfreed nodes than the bound allows.
-    pub const UNBOUNDED: &'static [Mistake] = &[
-        Mistake::ScansCurrentLimboOnly,
-        Mistake::SwitchesOverC,
-        Mistake::SwitchesWithoutScan,
-    ];
+    pub const UNBOUNDED: &'static [Mistake] =
+        &[Mistake::ScansCurrentLimboOnly, Mistake::SwitchesOverC, Mistake::SwitchesWithoutScan];
 }
 
 /// The rules, with at most one mistake in them.

@@ -18,10 +18,7 @@ pub struct Model {
 
 impl Model {
     pub fn fresh(params: Params, rules: Rules) -> Model {
-        Model {
-            rules,
-            domain: Domain::fresh(params),
-        }
+        Model { rules, domain: Domain::fresh(params) }
     }
 
     pub fn step(&mut self, step: Step) -> Answer {

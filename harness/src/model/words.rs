@@ -11,12 +11,7 @@ pub fn encode(domain: &Domain, words: &mut Vec<u32>) {
     words.extend(domain.params.numbers());
     words.extend([domain.clock, (domain.path == Path::Fallback) as u32, domain.epoch]);
     for process in &domain.processes {
-        words.extend([
-            process.epoch,
-            process.calls,
-            process.present as u32,
-            process.buffer.len() as u32,
-        ]);
+        words.extend([process.epoch, process.calls, process.present as u32, process.buffer.len() as u32]);
         for hazard in &process.hazards {
             words.extend([stored(hazard.visible), stored(hazard.assigned), hazard.validated as u32]);
         }
@@ -31,12 +26,7 @@ pub fn encode(domain: &Domain, words: &mut Vec<u32>) {
             Node::Allocated { owner, guest } => [1, owner, guest, 0, 0],
             Node::Reachable { guest } => [2, 0, guest, 0, 0],
             Node::Removed { owner, guest } => [3, owner, guest, 0, 0],
-            Node::Retired {
-                owner,
-                guest,
-                retired_at,
-                limbo,
-            } => [4, owner, guest, retired_at, limbo],
+            Node::Retired { owner, guest, retired_at, limbo } => [4, owner, guest, retired_at, limbo],
         });
     }
 }
@@ -56,25 +46,13 @@ pub fn decode(words: &[u32], rules: Rules) -> Option<Domain> {
     if longer || words.len() < params.word_count() {
         return None;
     }
-    let mut reader = Reader {
-        words: words[6..].iter(),
-        params,
-        clock: words[6],
-        rules,
-    };
+    let mut reader = Reader { words: words[6..].iter(), params, clock: words[6], rules };
     let clock = reader.any()?;
     let path = if reader.flag()? { Path::Fallback } else { Path::Fast };
     let epoch = reader.at_most(2)?;
     let processes = (0..params.processes).map(|_| reader.process()).collect::<Option<_>>()?;
     let nodes = (0..params.nodes).map(|_| reader.node()).collect::<Option<_>>()?;
-    Some(Domain {
-        params,
-        clock,
-        path,
-        epoch,
-        processes,
-        nodes,
-    })
+    Some(Domain { params, clock, path, epoch, processes, nodes })
 }
 
 /// Reads words one after another; None where one is not as it must be.
@@ -120,30 +98,18 @@ impl Reader<'_> {
         for _ in 0..3 * (BUFFER - pending) {
             self.nought(Mistake::TakesStoresPastLength)?;
         }
-        Some(Process {
-            epoch,
-            calls,
-            present,
-            hazards,
-            buffer,
-        })
+        Some(Process { epoch, calls, present, hazards, buffer })
     }
 
     fn hazard(&mut self) -> Option<Hazard> {
-        let hazard = Hazard {
-            visible: self.stored()?,
-            assigned: self.stored()?,
-            validated: self.flag()?,
-        };
+        let hazard = Hazard { visible: self.stored()?, assigned: self.stored()?, validated: self.flag()? };
         let sound = !hazard.validated || hazard.assigned.is_some();
         (sound || self.rules.have(Mistake::TakesValidatedUnassigned)).then_some(hazard)
     }
 
     fn store(&mut self) -> Option<Store> {
         let last = self.params.hazards - 1;
-        let hazard = self
-            .at_most(last + self.rules.have(Mistake::TakesStoreToHazardK) as u32)?
-            .min(last);
+        let hazard = self.at_most(last + self.rules.have(Mistake::TakesStoreToHazardK) as u32)?.min(last);
         let node = self.stored()?;
         let time = self.any()?;
         let early = time <= self.clock || self.rules.have(Mistake::TakesTimePastClock);
@@ -180,12 +146,7 @@ impl Reader<'_> {
                 let late = self.rules.have(Mistake::TakesRetiredAtPastClock);
                 let retired_at = self.at_most(if late { u32::MAX } else { self.clock })?;
                 let limbo = self.at_most(2 + self.rules.have(Mistake::TakesFourthLimbo) as u32)?;
-                Some(Node::Retired {
-                    owner,
-                    guest,
-                    retired_at,
-                    limbo,
-                })
+                Some(Node::Retired { owner, guest, retired_at, limbo })
             }
             _ => None,
         }

@@ -13,6 +13,7 @@ use std::fs::File;
 use std::io::Write;
 use std::path::Path;
 use std::process::{Command, Output, Stdio};
+use std::time::Duration;
 
 type Outcome = Result<String, String>;
 
@@ -21,9 +22,7 @@ pub fn all(report: &mut Report, desk: &Path, folder: &Path, seed: u64) {
         |name: &str, test: &dyn Fn(&Path, u64) -> Outcome| report.test(&format!("desk: {name}"), || test(desk, seed));
     test("random books", &random_books);
     test("any kind, process and hazard byte, any unread byte", &any_bytes);
-    test("no steps", &|desk, _| {
-        same(desk, &write(Params::from_numbers([2, 1, 2, 3, 1, 1]), &[], 0))
-    });
+    test("no steps", &|desk, _| same(desk, &write(Params::from_numbers([2, 1, 2, 3, 1, 1]), &[], 0)));
     test("books cut at every byte", &cut);
     test("padded in front", &padded);
     test("a wrong mark", &wrong_mark);
@@ -34,29 +33,26 @@ pub fn all(report: &mut Report, desk: &Path, folder: &Path, seed: u64) {
     test("in small chunks", &chunks);
     test("unreadable input", &unreadable);
     for name in examples::NAMES {
-        test(&format!("examples/{name}.book"), &|desk, _| {
-            same(desk, &examples::read(folder, name)?.0)
-        });
+        test(&format!("examples/{name}.book"), &|desk, _| same(desk, &examples::read(folder, name)?.0));
     }
 }
 
 /// Runs `desk`, giving its input in pieces of at most `chunk` bytes.
 fn run(desk: &Path, input: &[u8], chunk: usize) -> Result<Output, String> {
     let mut command = Command::new(desk);
-    let command = command
-        .stdin(Stdio::piped())
-        .stdout(Stdio::piped())
-        .stderr(Stdio::piped());
-    let mut child = command
-        .spawn()
-        .map_err(|error| format!("{}: {error}", desk.display()))?;
+    let command = command.stdin(Stdio::piped()).stdout(Stdio::piped()).stderr(Stdio::piped());
+    let mut child = command.spawn().map_err(|error| format!("{}: {error}", desk.display()))?;
     let mut pipe = child.stdin.take().expect("a pipe");
     let input = input.to_vec();
     let writer = std::thread::spawn(move || {
-        // a program that has read enough may leave: the rest is not its business
-        input
-            .chunks(chunk)
-            .all(|piece| pipe.write_all(piece).is_ok() && pipe.flush().is_ok())
+        for (number, piece) in input.chunks(chunk).enumerate() {
+            if number > 0 {
+                std::thread::sleep(Duration::from_micros(50)); // so that the program may read what there is
+            }
+            if pipe.write_all(piece).is_err() {
+                break; // a program that has read enough may leave
+            }
+        }
     });
     let output = child.wait_with_output().map_err(|error| error.to_string());
     writer.join().map_err(|_| "the writer panicked")?;
@@ -69,12 +65,7 @@ fn same_in(desk: &Path, input: &[u8], chunk: usize) -> Outcome {
     if found != expected {
         let line = found.lines().zip(expected.lines()).take_while(|(x, y)| x == y).count();
         let of = |text: &str| text.lines().nth(line).unwrap_or("nothing").to_string();
-        return Err(format!(
-            "{} bytes, line {line}: {}, expected {}",
-            input.len(),
-            of(&found),
-            of(&expected)
-        ));
+        return Err(format!("{} bytes, line {line}: {}, expected {}", input.len(), of(&found), of(&expected)));
     }
     match output.stderr.is_empty() {
         true => Ok(expected.lines().next().unwrap_or_default().to_string()),
@@ -119,7 +110,11 @@ fn random_book(seed: u64, index: u64) -> Vec<u8> {
     let mut random = Random::new(seed ^ 0xb00c, index);
     let params = Params::random(&mut random);
     let length = *random.of(&[1, 13, 100, 700]);
-    let steps = schedule(&mut random, params, length);
+    book_of(&mut random, params, length)
+}
+
+fn book_of(random: &mut Random, params: Params, length: usize) -> Vec<u8> {
+    let steps = schedule(random, params, length);
     write(params, &steps, random.word() as u8)
 }
 
@@ -176,25 +171,10 @@ fn with_trailer(book: &[u8], count: u32, distance: u32) -> Vec<u8> {
 }
 
 fn wrong_numbers(desk: &Path, seed: u64) -> Outcome {
-    let book = write(
-        Params::from_numbers([1; 6]),
-        &schedule(&mut Random::new(seed, 2), Params::from_numbers([1; 6]), 10),
-        0,
-    );
+    let book =
+        write(Params::from_numbers([1; 6]), &schedule(&mut Random::new(seed, 2), Params::from_numbers([1; 6]), 10), 0);
     let count = 10;
-    let distances = [
-        0,
-        12,
-        24,
-        35,
-        37,
-        36 + 120 - 12,
-        36 + 120 - 1,
-        36 + 120 + 1,
-        36 + 120 + 12,
-        1 << 31,
-        u32::MAX,
-    ];
+    let distances = [0, 12, 24, 35, 37, 36 + 120 - 12, 36 + 120 - 1, 36 + 120 + 1, 36 + 120 + 12, 1 << 31, u32::MAX];
     let wrong = distances.map(|distance| with_trailer(&book, count, distance));
     let counts = [0, 1, 9, 11, 1 << 31, u32::MAX].map(|count| with_trailer(&book, count, 156));
     let beyond = [11, 5000].map(|count| with_trailer(&book, count, 36 + 12 * count));
@@ -204,30 +184,19 @@ fn wrong_numbers(desk: &Path, seed: u64) -> Outcome {
 /// Counts whose distance passes 32 bits: wrapped or not, none is right.
 fn great_counts(desk: &Path, seed: u64) -> Outcome {
     let book = random_book(seed, 3);
-    let counts = [
-        u32::MAX,
-        u32::MAX - 1,
-        u32::MAX - 2,
-        u32::MAX / 12,
-        u32::MAX / 12 + 1,
-        1 << 30,
-        (1 << 30) + 1,
-    ];
+    let counts = [u32::MAX, u32::MAX - 1, u32::MAX - 2, u32::MAX / 12, u32::MAX / 12 + 1, 1 << 30, (1 << 30) + 1];
     let pairs = counts.into_iter().flat_map(|count| {
         let wrapped = count.wrapping_mul(12).wrapping_add(36);
         [wrapped, wrapped.min(book.len() as u32), u32::MAX, 36].map(|distance| (count, distance))
     });
-    let books: Vec<_> = pairs
-        .map(|(count, distance)| with_trailer(&book, count, distance))
-        .collect();
+    let books: Vec<_> = pairs.map(|(count, distance)| with_trailer(&book, count, distance)).collect();
     each(desk, books, Some(19))
 }
 
 fn wrong_params(desk: &Path, seed: u64) -> Outcome {
     let limits = crate::params::LIMITS;
-    let books = (0..6)
-        .flat_map(|place| [0, limits[place] + 1, 1 << 31, u32::MAX].map(|value| (place, value)))
-        .map(|(place, value)| {
+    let books = (0..6).flat_map(|place| [0, limits[place] + 1, 1 << 31, u32::MAX].map(|value| (place, value))).map(
+        |(place, value)| {
             let mut numbers = [1; 6];
             numbers[place] = value;
             write(
@@ -235,7 +204,8 @@ fn wrong_params(desk: &Path, seed: u64) -> Outcome {
                 &schedule(&mut Random::new(seed, 4), Params::from_numbers([1; 6]), 5),
                 0,
             )
-        });
+        },
+    );
     each(desk, books, Some(1))
 }
 
@@ -244,49 +214,27 @@ fn longest(desk: &Path, seed: u64) -> Outcome {
     let book = write(params, &schedule(&mut Random::new(seed, 5), params, MOST_STEPS), 0);
     let padded = |length: usize| [vec![7; length - book.len()], book.clone()].concat();
     each(desk, [book.clone(), padded(GREATEST)], None)?;
-    each(
-        desk,
-        [
-            padded(GREATEST + 1),
-            padded(GREATEST + 2),
-            vec![0; GREATEST + 1],
-            vec![0; 300_000],
-        ],
-        Some(18),
-    )?;
-    Ok(format!(
-        "{MOST_STEPS} steps; {GREATEST} bytes taken, longer ones refused with 18"
-    ))
+    each(desk, [padded(GREATEST + 1), padded(GREATEST + 2), vec![0; GREATEST + 1], vec![0; 300_000]], Some(18))?;
+    Ok(format!("{MOST_STEPS} steps; {GREATEST} bytes taken, longer ones refused with 18"))
 }
 
 fn chunks(desk: &Path, seed: u64) -> Outcome {
-    let mut count = 0;
-    for chunk in [1, 2, 7, 11, 12, 13, 100, 4096] {
-        let book = random_book(seed, chunk as u64);
-        let book = if chunk == 1 {
-            book[..book.len().min(1200)].to_vec()
-        } else {
-            book
-        };
-        same_in(desk, &book, chunk)?;
-        count += 1;
+    let params = Params::from_numbers([4, 2, 32, 3, 2, 4]);
+    let sizes = [1, 2, 7, 11, 12, 13, 100, 4096];
+    for chunk in sizes {
+        let length = if chunk < 10 { 40 } else { 700 };
+        same_in(desk, &book_of(&mut Random::new(seed, 6), params, length), chunk)?;
     }
-    Ok(format!("{count} sizes"))
+    Ok(format!("{} sizes", sizes.len()))
 }
 
 /// A directory as standard input cannot be read: a line on standard error, nothing on standard output.
 fn unreadable(desk: &Path, _: u64) -> Outcome {
     let directory = File::open("/").map_err(|error| error.to_string())?;
-    let output = Command::new(desk)
-        .stdin(directory)
-        .output()
-        .map_err(|error| error.to_string())?;
+    let output = Command::new(desk).stdin(directory).output().map_err(|error| error.to_string())?;
     let said = String::from_utf8_lossy(&output.stderr);
     match (output.stdout.is_empty(), said.lines().count(), said.ends_with('\n')) {
         (true, 1, true) => Ok(said.trim_end().to_string()),
-        _ => Err(format!(
-            "standard output {:?}, standard error {said:?}",
-            String::from_utf8_lossy(&output.stdout)
-        )),
+        _ => Err(format!("standard output {:?}, standard error {said:?}", String::from_utf8_lossy(&output.stdout))),
     }
 }

@@ -44,9 +44,7 @@ fn check(calls: &Calls, case: &Case) -> Result<String, String> {
     let mut words = case.words.clone();
     holds("library", case, &mut words, |words, step| calls.step(words, step))?;
     let mut words = case.words.clone();
-    holds("model", case, &mut words, |words, step| {
-        step_words(words, step, Rules::default())
-    })?;
+    holds("model", case, &mut words, |words, step| step_words(words, step, Rules::default()))?;
     Ok(format!("{} steps", case.steps.len()))
 }
 
@@ -82,9 +80,7 @@ fn of(kind: Kind) -> Step {
 
 /// A node from Free to Retired by process 0.
 fn turnover(node: u32, guest: u32) -> Vec<Step> {
-    [Kind::Allocate, Kind::Publish, Kind::Remove, Kind::Retire]
-        .map(|kind| Step::new(kind, 0, 0, node, guest))
-        .to_vec()
+    [Kind::Allocate, Kind::Publish, Kind::Remove, Kind::Retire].map(|kind| Step::new(kind, 0, 0, node, guest)).to_vec()
 }
 
 /// Node 0 retired at clock 0, then ticks, then a second retire, which scans, since C = 1.
@@ -100,21 +96,11 @@ fn cases() -> Vec<Case> {
         answers: answers.to_vec(),
         after: after.to_vec(),
     };
-    let visible = [
-        Kind::Allocate,
-        Kind::Publish,
-        Kind::Protect,
-        Kind::Drain,
-        Kind::Remove,
-        Kind::Retire,
-    ]
-    .map(of)
-    .to_vec();
+    let visible =
+        [Kind::Allocate, Kind::Publish, Kind::Protect, Kind::Drain, Kind::Remove, Kind::Retire].map(of).to_vec();
     let mut stopped = fresh([1, 1, 1, 3, 1, 1]);
     (stopped[CLOCK], stopped[PENDING], stopped[16 + 1], stopped[16 + 2]) = (u32::MAX, 1, 1, u32::MAX - 3);
-    let claimed = [Kind::Allocate, Kind::Publish, Kind::Protect, Kind::Check]
-        .map(of)
-        .to_vec();
+    let claimed = [Kind::Allocate, Kind::Publish, Kind::Protect, Kind::Check].map(of).to_vec();
     vec![
         at(
             "T = 3, a scan at clock 3 keeps the node",
@@ -123,13 +109,7 @@ fn cases() -> Vec<Case> {
             &[],
             &[(NODE[0], 4), (NODE[1], 4)],
         ),
-        at(
-            "at clock 4 it frees it",
-            [1, 1, 2, 3, 1, 1],
-            scan_after(4),
-            &[(11, 0, 1)],
-            &[(NODE[0], 0), (NODE[1], 4)],
-        ),
+        at("at clock 4 it frees it", [1, 1, 2, 3, 1, 1], scan_after(4), &[(11, 0, 1)], &[(NODE[0], 0), (NODE[1], 4)]),
         at(
             "and keeps it if visible",
             [1, 1, 2, 3, 1, 1],
@@ -144,20 +124,8 @@ fn cases() -> Vec<Case> {
             &[(8, 13, 0), (9, 13, 0)],
             &[(PENDING, 8)],
         ),
-        at(
-            "C = 2, the first retire stays fast",
-            [1, 1, 2, 3, 1, 2],
-            turnover(0, 70),
-            &[],
-            &[(PATH, 0)],
-        ),
-        at(
-            "the second switches",
-            [1, 1, 2, 3, 1, 2],
-            [turnover(0, 70), turnover(1, 60)].concat(),
-            &[],
-            &[(PATH, 1)],
-        ),
+        at("C = 2, the first retire stays fast", [1, 1, 2, 3, 1, 2], turnover(0, 70), &[], &[(PATH, 0)]),
+        at("the second switches", [1, 1, 2, 3, 1, 2], [turnover(0, 70), turnover(1, 60)].concat(), &[], &[(PATH, 1)]),
         at(
             "Q = 3, two manages count",
             [1, 1, 1, 1, 3, 1],
@@ -189,9 +157,7 @@ fn cases() -> Vec<Case> {
         at(
             "use after protect without check gets 12",
             [1, 1, 1, 1, 1, 1],
-            [Kind::Allocate, Kind::Publish, Kind::Protect, Kind::Use]
-                .map(of)
-                .to_vec(),
+            [Kind::Allocate, Kind::Publish, Kind::Protect, Kind::Use].map(of).to_vec(),
             &[(3, 12, 0)],
             &[(VALIDATED, 0)],
         ),

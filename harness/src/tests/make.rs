@@ -17,11 +17,7 @@ pub fn length(calls: &Calls) -> Result<String, String> {
         for k in numbers(8) {
             for m in numbers(256) {
                 let params = Params::from_numbers([n, k, m, 1, 1, 1]);
-                let expected = if params.in_range() {
-                    params.word_count() as u32
-                } else {
-                    0
-                };
+                let expected = if params.in_range() { params.word_count() as u32 } else { 0 };
                 let found = calls.length(n, k, m);
                 if found != expected {
                     return Err(format!("length({n}, {k}, {m}) is {found}, expected {expected}"));
@@ -39,11 +35,7 @@ pub fn make(calls: &Calls, seed: u64) -> Result<String, String> {
     for index in 0..20_000 {
         let mut random = Random::new(seed ^ 0x3a4e, index);
         let params = some_params(&mut random);
-        let right = if params.in_range() {
-            params.word_count()
-        } else {
-            45 + random.below(400) as usize
-        };
+        let right = if params.in_range() { params.word_count() } else { 45 + random.below(400) as usize };
         let length = match random.below(4) {
             0 => *random.of(&[0, 1, 6, 8, 9, right - 1, right + 1, right + 5]),
             _ => right,
@@ -53,10 +45,7 @@ pub fn make(calls: &Calls, seed: u64) -> Result<String, String> {
         answers[answer.refusal as usize] += 1;
     }
     match answers.iter().all(|&count| count > 1000) {
-        true => Ok(format!(
-            "{} made, {} refused with 1, {} with 2",
-            answers[0], answers[1], answers[2]
-        )),
+        true => Ok(format!("{} made, {} refused with 1, {} with 2", answers[0], answers[1], answers[2])),
         false => Err(format!("too few of an answer: {answers:?}")),
     }
 }

@@ -17,11 +17,7 @@ pub fn one_word(calls: &Calls, seed: u64, coverage: &mut Coverage) -> Result<Str
     let mut counts = [0; CONDITIONS.len()];
     for index in 0..60 {
         let mut random = Random::new(seed ^ 0x0b10, index);
-        let params = if index == 0 {
-            Params::from_numbers(LIMITS)
-        } else {
-            Params::random(&mut random)
-        };
+        let params = if index == 0 { Params::from_numbers(LIMITS) } else { Params::random(&mut random) };
         let domain = arbitrary::domain(&mut random, params);
         broken_in_turn(calls, Rules::default(), &domain, &mut random, coverage, &mut counts)
             .map_err(|wrong| format!("seed {seed}, domain {index}, {params}: {wrong}"))?;
@@ -51,16 +47,9 @@ pub fn broken_in_turn(
     for broken in every_word(domain) {
         let mut words = good.clone();
         words[broken.index] = broken.value;
-        refused(calls, rules, &words, any_step(random), coverage).map_err(|wrong| {
-            format!(
-                "word {} = {} ({}): {wrong}",
-                broken.index, broken.value, broken.condition
-            )
-        })?;
-        counts[CONDITIONS
-            .iter()
-            .position(|&name| name == broken.condition)
-            .expect("a listed condition")] += 1;
+        refused(calls, rules, &words, any_step(random), coverage)
+            .map_err(|wrong| format!("word {} = {} ({}): {wrong}", broken.index, broken.value, broken.condition))?;
+        counts[CONDITIONS.iter().position(|&name| name == broken.condition).expect("a listed condition")] += 1;
     }
     Ok(())
 }
@@ -76,16 +65,7 @@ fn refused(calls: &Calls, rules: Rules, words: &[u32], step: Step, coverage: &mu
     let steps = [step.numbers(), Step::new(Kind::Tick, 0, 0, 0, 0).numbers()].concat();
     let mut answers = [7; 4];
     let taken = calls.run(lent.words_mut(), &steps, &mut answers);
-    same(
-        "run",
-        Answer {
-            refusal: answers[0],
-            value: answers[1],
-        },
-        &lent,
-        answer,
-        words,
-    )?;
+    same("run", Answer { refusal: answers[0], value: answers[1] }, &lent, answer, words)?;
     match (taken, answers) {
         (true, [3, 0, 3, 0]) => Ok(()),
         _ => Err(format!("run: {taken}, {answers:?}")),

@@ -18,14 +18,10 @@ const ROUNDS: u64 = 400;
 
 pub fn all(report: &mut Report, calls: &Calls, seed: u64) {
     for &mistake in Mistake::ALL {
-        report.test(&format!("told from the model with {mistake:?}"), || {
-            found(calls, mistake, seed)
-        });
+        report.test(&format!("told from the model with {mistake:?}"), || found(calls, mistake, seed));
     }
     for &mistake in [Mistake::UNSAFE, Mistake::UNBOUNDED].into_iter().flatten() {
-        report.test(&format!("the reference objects to {mistake:?}"), || {
-            objected(mistake, seed)
-        });
+        report.test(&format!("the reference objects to {mistake:?}"), || objected(mistake, seed));
     }
 }
 

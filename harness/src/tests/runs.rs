@@ -31,17 +31,10 @@ pub fn one_by_one(calls: &Calls, seed: u64, cases: u64) -> Result<String, String
 /// Words of a domain, and a schedule for it.
 fn start(random: &mut Random) -> (Vec<u32>, Vec<Step>) {
     let params = Params::random(random);
-    let domain = if random.chance(50) {
-        Domain::fresh(params)
-    } else {
-        arbitrary::domain(random, params)
-    };
+    let domain = if random.chance(50) { Domain::fresh(params) } else { arbitrary::domain(random, params) };
     let mut words = Vec::new();
     encode(&domain, &mut words);
-    let mut model = Model {
-        rules: Rules::default(),
-        domain,
-    };
+    let mut model = Model { rules: Rules::default(), domain };
     let (mood, length) = (Mood::random(random), *random.of(&[0, 1, 2, 10, 300]));
     let schedule = (0..length).map(|_| {
         let step = mood.step(random, &model);

@@ -59,18 +59,11 @@ pub fn covered(coverage: &Coverage, least: u64) -> Result<String, String> {
     for (name, count) in coverage.counts() {
         println!("        {count:>9}  {name}");
     }
-    let missing: Vec<String> = coverage
-        .counts()
-        .into_iter()
-        .filter(|(_, count)| *count < least)
-        .map(|(name, _)| name)
-        .collect();
+    let missing: Vec<String> =
+        coverage.counts().into_iter().filter(|(_, count)| *count < least).map(|(name, _)| name).collect();
     let percent = coverage.accepted_percent();
     match (missing.is_empty(), percent) {
-        (true, 50..) => Ok(format!(
-            "{} steps, {percent} % accepted, every count at least {least}",
-            coverage.steps
-        )),
+        (true, 50..) => Ok(format!("{} steps, {percent} % accepted, every count at least {least}", coverage.steps)),
         (true, _) => Err(format!("only {percent} % of the steps were accepted")),
         (false, _) => Err(format!("less than {least} of: {}", missing.join(", "))),
     }

@@ -8,17 +8,13 @@ mod processes;
 mod race;
 mod retire;
 mod rows;
+mod table;
 
 use harness::params::Params;
 use std::path::PathBuf;
 
 /// The least shape, the worked book's, a middling one, the greatest: each with T, Q and C at which paths switch and nodes are freed.
-const SHAPES: [[u32; 6]; 4] = [
-    [1, 1, 1, 3, 2, 1],
-    [2, 1, 2, 3, 2, 1],
-    [4, 2, 32, 5, 2, 8],
-    [16, 8, 256, 5, 2, 24],
-];
+const SHAPES: [[u32; 6]; 4] = [[1, 1, 1, 3, 2, 1], [2, 1, 2, 3, 2, 1], [4, 2, 32, 5, 2, 8], [16, 8, 256, 5, 2, 24]];
 
 fn main() {
     let mut words = std::env::args().skip(1);
@@ -30,11 +26,7 @@ fn main() {
             std::process::exit(2);
         }
     };
-    println!("ns per step or call, best round; 'x/C' is the ratio to plain C, which checks the words before each step");
-    println!(
-        "{:44}{:>10}{:>10}{:>10}{:>12}{:>10}",
-        "", "library", "C", "model", "library/C", "model/C"
-    );
+    table::head();
     for shape in SHAPES {
         rows::all(Params::from_numbers(shape));
     }

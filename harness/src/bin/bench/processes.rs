@@ -1,7 +1,8 @@
 //! A book of 5,000 steps through whole processes: the program `desk` beside the same in plain C.
 
 use crate::race::{race, Work};
-use crate::rows::line;
+use crate::rows::shape;
+use crate::table::{line, Row};
 use harness::book::{print, write};
 use harness::model::mistake::Rules;
 use harness::model::Model;
@@ -35,8 +36,8 @@ impl Work for Process<'_> {
 
 pub fn all(desk: &Path, plain: &Path) {
     let path = std::env::temp_dir().join(format!("qsense-bench-{}.book", std::process::id()));
-    for shape in [[4, 2, 32, 5, 2, 8], [16, 8, 256, 5, 2, 24]] {
-        let params = Params::from_numbers(shape);
+    for numbers in [[4, 2, 32, 5, 2, 8], [16, 8, 256, 5, 2, 24]] {
+        let params = Params::from_numbers(numbers);
         let book = write(params, &schedule(params), 0);
         std::fs::write(&path, &book).expect("a file in the folder for temporary files");
         let [mut desk, mut plain] = [desk, plain].map(|program| Process { program, book: &path });
@@ -48,20 +49,15 @@ pub fn all(desk: &Path, plain: &Path) {
                 process.program.display()
             );
         }
-        line(
-            &format!("{params}, a book of {STEPS}, per step"),
-            &race(40, STEPS, &mut [&mut desk, &mut plain]),
-        );
+        let best = race(40, STEPS, &mut [&mut desk, &mut plain]);
+        let name = format!("{}, a book of {STEPS} steps as a process, per step", shape(params));
+        line(&name, Row { library: best[0], plain: best[1], ..Row::default() });
     }
     std::fs::remove_file(&path).expect("the file that was written");
 }
 
 fn schedule(params: Params) -> Vec<Step> {
-    let (mut random, mut model, mood) = (
-        Random::new(1, 1),
-        Model::fresh(params, Rules::default()),
-        Mood::steady(),
-    );
+    let (mut random, mut model, mood) = (Random::new(1, 1), Model::fresh(params, Rules::default()), Mood::steady());
     let steps = (0..STEPS).map(|_| {
         let step = mood.step(&mut random, &model);
         model.step(step);

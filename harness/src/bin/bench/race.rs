@@ -38,12 +38,7 @@ pub struct Steps<'a> {
 
 impl<'a> Steps<'a> {
     pub fn new(calls: &'a Calls, start: &'a [Vec<u32>], schedule: &'a [(usize, Step)]) -> Steps<'a> {
-        Steps {
-            calls,
-            start,
-            domains: start.to_vec(),
-            schedule,
-        }
+        Steps { calls, start, domains: start.to_vec(), schedule }
     }
 }
 
@@ -70,11 +65,7 @@ pub struct ModelSteps<'a> {
 
 impl<'a> ModelSteps<'a> {
     pub fn new(start: &'a [Vec<u32>], schedule: &'a [(usize, Step)]) -> ModelSteps<'a> {
-        ModelSteps {
-            start,
-            domains: start.to_vec(),
-            schedule,
-        }
+        ModelSteps { start, domains: start.to_vec(), schedule }
     }
 }
 
@@ -101,13 +92,7 @@ pub struct Run<'a> {
 
 impl<'a> Run<'a> {
     pub fn new(calls: &'a Calls, start: &'a [u32], steps: &'a [u32]) -> Run<'a> {
-        Run {
-            calls,
-            start,
-            words: start.to_vec(),
-            steps,
-            answers: vec![0; steps.len() / 5 * 2],
-        }
+        Run { calls, start, words: start.to_vec(), steps, answers: vec![0; steps.len() / 5 * 2] }
     }
 }
 

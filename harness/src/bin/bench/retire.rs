@@ -1,7 +1,7 @@
 //! A retire that scans 256 nodes with 128 hazards set, when few, many or all of the nodes are due.
 
 use crate::race::{race, Steps};
-use crate::rows::line;
+use crate::table::{line, Row};
 use harness::library::{PLAIN, QSENSE};
 use harness::model::domain::{Domain, Node, Path};
 use harness::model::words::encode;
@@ -14,45 +14,29 @@ const DOMAINS: usize = 16;
 const ROUNDS: u32 = 3_000;
 
 pub fn all() {
-    let none = vec![
-        (
-            0,
-            Step {
-                kind: 0,
-                process: 0,
-                hazard: 0,
-                node: 0,
-                guest: 0
-            }
-        );
-        DOMAINS
-    ];
-    let check = times(&[scanning(3, 0)], &none);
+    let none = Step { kind: 0, process: 0, hazard: 0, node: 0, guest: 0 };
     let mut library = Vec::new();
     // the node in hand is 0 ticks old, so at most 255 are due
     for due in [3, 67, 255] {
         let start: Vec<Vec<u32>> = (0..DOMAINS).map(|seed| scanning(due, seed as u64)).collect();
-        let schedule: Vec<_> = (0..DOMAINS)
-            .map(|domain| (domain, Step::new(Kind::Retire, 0, 0, 0, 0)))
-            .collect();
-        let best = times(&start, &schedule);
-        line(&format!("16 8 256, retire with scan, {due} nodes due"), &best);
-        let scan: Vec<f64> = best.iter().zip(&check).map(|(whole, check)| whole - check).collect();
-        line(&format!("16 8 256, without its check, {due} nodes due"), &scan);
-        library.push(best[0]);
+        let schedule: Vec<_> = (0..DOMAINS).map(|domain| (domain, Step::new(Kind::Retire, 0, 0, 0, 0))).collect();
+        let check: Vec<_> = schedule.iter().map(|&(domain, _)| (domain, none)).collect();
+        let (whole, check) = (times(&start, &schedule), times(&start, &check));
+        library.push(whole[0]);
+        let row = |time: [f64; 2]| Row { library: time[0], plain: time[1], ..Row::default() };
+        line(&format!("16 8 256, retire with scan, {due} nodes due"), row(whole));
+        let scan = [whole[0] - check[0], whole[1] - check[1]];
+        line(&format!("16 8 256, the same less its check, {due} nodes due"), row(scan));
     }
-    let (least, most) = library
-        .iter()
-        .fold((f64::MAX, 0f64), |(least, most), &t| (least.min(t), most.max(t)));
+    let (least, most) = library.iter().fold((f64::MAX, 0f64), |(least, most), &t| (least.min(t), most.max(t)));
     println!("the library's slowest retire takes {:.2} of its fastest", most / least);
 }
 
-fn times(start: &[Vec<u32>], schedule: &[(usize, Step)]) -> Vec<f64> {
-    let (mut library, mut plain) = (
-        Steps::new(&QSENSE, start, schedule),
-        Steps::new(&PLAIN, start, schedule),
-    );
-    race(ROUNDS, schedule.len(), &mut [&mut library, &mut plain])
+/// The library's time and plain C's.
+fn times(start: &[Vec<u32>], schedule: &[(usize, Step)]) -> [f64; 2] {
+    let (mut library, mut plain) = (Steps::new(&QSENSE, start, schedule), Steps::new(&PLAIN, start, schedule));
+    let best = race(ROUNDS, schedule.len(), &mut [&mut library, &mut plain]);
+    [best[0], best[1]]
 }
 
 /// A domain on the fallback path whose every hazard has a node visible. Process 0 has removed node 0 and retired the others, `due` of
@@ -65,30 +49,13 @@ fn scanning(due: usize, seed: u64) -> Vec<u32> {
         hazard.visible = Some(random.below(256));
         hazard.assigned = hazard.visible;
     }
-    domain.nodes.fill(Node::Retired {
-        owner: 0,
-        guest: 70,
-        retired_at: 100,
-        limbo: 0,
-    });
+    domain.nodes.fill(Node::Retired { owner: 0, guest: 70, retired_at: 100, limbo: 0 });
     domain.nodes[0] = Node::Removed { owner: 0, guest: 70 };
     let mut left = due;
     while left > 0 {
         let place = 1 + random.below(255) as usize;
-        if domain.nodes[place]
-            == (Node::Retired {
-                owner: 0,
-                guest: 70,
-                retired_at: 100,
-                limbo: 0,
-            })
-        {
-            domain.nodes[place] = Node::Retired {
-                owner: 0,
-                guest: 70,
-                retired_at: 10,
-                limbo: 0,
-            };
+        if domain.nodes[place] == (Node::Retired { owner: 0, guest: 70, retired_at: 100, limbo: 0 }) {
+            domain.nodes[place] = Node::Retired { owner: 0, guest: 70, retired_at: 10, limbo: 0 };
             left -= 1;
         }
     }

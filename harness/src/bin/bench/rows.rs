@@ -1,6 +1,7 @@
 //! Check, step, run and count at one shape, on one domain and on 64 in turn.
 
-use crate::race::{race, Counts, ModelSteps, Run, Steps, Work};
+use crate::race::{race, Counts, ModelSteps, Run, Steps};
+use crate::table::{line, Row};
 use harness::arbitrary;
 use harness::library::{PLAIN, QSENSE, TRUSTING};
 use harness::model::mistake::Rules;
@@ -33,21 +34,12 @@ impl Plan {
             model.step(step);
             (turn % domains, step)
         });
-        Plan {
-            schedule: schedule.collect(),
-            start,
-        }
+        Plan { schedule: schedule.collect(), start }
     }
 
     /// Steps of a kind that there is not, which are answered right after the check.
     fn unknown(&self) -> Vec<(usize, Step)> {
-        let none = Step {
-            kind: 0,
-            process: 0,
-            hazard: 0,
-            node: 0,
-            guest: 0,
-        };
+        let none = Step { kind: 0, process: 0, hazard: 0, node: 0, guest: 0 };
         (0..STEPS).map(|turn| (turn % self.start.len(), none)).collect()
     }
 }
@@ -57,10 +49,7 @@ fn running(random: &mut Random, params: Params) -> Model {
     loop {
         let domain = arbitrary::domain(random, params);
         if (10..1 << 31).contains(&domain.clock) {
-            return Model {
-                rules: Rules::default(),
-                domain,
-            };
+            return Model { rules: Rules::default(), domain };
         }
     }
 }
@@ -72,46 +61,36 @@ fn words(model: &Model) -> Vec<u32> {
 }
 
 pub fn all(params: Params) {
+    let shape = shape(params);
     for domains in [1, 64] {
         let plan = Plan::new(params, domains);
-        let name = |what: &str| {
-            format!(
-                "{params}, {what}, {domains} domain{}",
-                if domains == 1 { "" } else { "s" }
-            )
-        };
+        let name =
+            |what: &str| format!("{shape}, {what}, {domains} domain{}", if domains == 1 { "" } else { "s in turn" });
         steps(&name("check alone"), &plan.start, &plan.unknown());
         steps(&name("step"), &plan.start, &plan.schedule);
         count(&name("reachable count"), &plan.start);
         if domains == 1 {
-            run(&format!("{params}, run of {STEPS}"), &plan.start[0], &plan.schedule);
+            run(&format!("{shape}, run of {STEPS} steps"), &plan.start[0], &plan.schedule);
         }
     }
 }
 
+/// N, K and M.
+pub fn shape(params: Params) -> String {
+    format!("{} {} {}", params.processes, params.hazards, params.nodes)
+}
+
 fn steps(name: &str, start: &[Vec<u32>], schedule: &[(usize, Step)]) {
-    let (mut library, mut plain) = (
-        Steps::new(&QSENSE, start, schedule),
-        Steps::new(&PLAIN, start, schedule),
-    );
+    let (mut library, mut plain) = (Steps::new(&QSENSE, start, schedule), Steps::new(&PLAIN, start, schedule));
     let best = race(ROUNDS, STEPS, &mut [&mut library, &mut plain]);
     let model = race(MODEL_ROUNDS, STEPS, &mut [&mut ModelSteps::new(start, schedule)])[0];
-    println!(
-        "{name:44}{:>10.1}{:>10.1}{model:>10.1}{:>12.2}{:>10.2}",
-        best[0],
-        best[1],
-        best[0] / best[1],
-        model / best[1]
-    );
+    line(name, Row { library: best[0], plain: best[1], model: Some(model), ..Row::default() });
 }
 
 fn count(name: &str, domains: &[Vec<u32>]) {
-    let [mut library, mut plain] = [&QSENSE, &PLAIN].map(|calls| Counts {
-        calls,
-        domains,
-        turns: STEPS,
-    });
-    line(name, &race(ROUNDS, STEPS, &mut [&mut library, &mut plain]));
+    let [mut library, mut plain] = [&QSENSE, &PLAIN].map(|calls| Counts { calls, domains, turns: STEPS });
+    let best = race(ROUNDS, STEPS, &mut [&mut library, &mut plain]);
+    line(name, Row { library: best[0], plain: best[1], ..Row::default() });
 }
 
 /// A run by the library, by C that checks before each step, and by C that checks once and trusts itself.
@@ -119,19 +98,6 @@ pub fn run(name: &str, start: &[u32], schedule: &[(usize, Step)]) {
     let steps: Vec<u32> = schedule.iter().flat_map(|(_, step)| step.numbers()).collect();
     let [mut library, mut plain, mut trusting] =
         [&QSENSE, &PLAIN, &TRUSTING].map(|calls| Run::new(calls, start, &steps));
-    let contenders: &mut [&mut dyn Work] = &mut [&mut library, &mut plain, &mut trusting];
-    let best = race(ROUNDS, schedule.len(), contenders);
-    line(name, &best[..2]);
-    line(&format!("{name}, C checks once"), &[best[0], best[2]]);
-}
-
-/// The library's time and plain C's.
-pub fn line(name: &str, best: &[f64]) {
-    println!(
-        "{name:44}{:>10.1}{:>10.1}{:>10}{:>12.2}",
-        best[0],
-        best[1],
-        "",
-        best[0] / best[1]
-    );
+    let best = race(ROUNDS, schedule.len(), &mut [&mut library, &mut plain, &mut trusting]);
+    line(name, Row { library: best[0], plain: best[1], trusting: Some(best[2]), ..Row::default() });
 }
