@@ -56,8 +56,8 @@ impl Coverage {
         }
     }
 
-    /// Counts an answer given on words that are no domain.
-    pub fn malformed(&mut self, answer: Answer) {
+    /// Counts an answer given on words that need not be a domain.
+    pub fn on_words(&mut self, answer: Answer) {
         self.steps += 1;
         self.refused[answer.refusal as usize] += 1;
     }

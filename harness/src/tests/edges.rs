@@ -25,6 +25,7 @@ const CALLS: usize = 10;
 const PRESENCE: usize = 11;
 const PENDING: usize = 12;
 const VALIDATED: usize = 15;
+const STORE: usize = 16;
 // of nodes where N = K = 1: its state
 const NODE: [usize; 2] = [40, 45];
 
@@ -89,89 +90,68 @@ fn scan_after(ticks: usize) -> Vec<Step> {
 }
 
 fn cases() -> Vec<Case> {
-    let at = |name, numbers, steps, answers: &[(usize, u32, u32)], after: &[(usize, u32)]| Case {
-        name,
-        words: fresh(numbers),
-        steps,
-        answers: answers.to_vec(),
-        after: after.to_vec(),
-    };
-    let visible =
-        [Kind::Allocate, Kind::Publish, Kind::Protect, Kind::Drain, Kind::Remove, Kind::Retire].map(of).to_vec();
-    let mut stopped = fresh([1, 1, 1, 3, 1, 1]);
-    (stopped[CLOCK], stopped[PENDING], stopped[16 + 1], stopped[16 + 2]) = (u32::MAX, 1, 1, u32::MAX - 3);
-    let claimed = [Kind::Allocate, Kind::Publish, Kind::Protect, Kind::Check].map(of).to_vec();
+    [scans(), thresholds(), claims(), vec![stopped()]].into_iter().flatten().collect()
+}
+
+/// A case from a fresh domain.
+fn case(
+    name: &'static str,
+    numbers: [u32; 6],
+    steps: Vec<Step>,
+    answers: &[(usize, u32, u32)],
+    after: &[(usize, u32)],
+) -> Case {
+    Case { name, words: fresh(numbers), steps, answers: answers.to_vec(), after: after.to_vec() }
+}
+
+fn scans() -> Vec<Case> {
+    let numbers = [1, 1, 2, 3, 1, 1];
+    let (kept, freed) = ([(NODE[0], 4), (NODE[1], 4)], [(NODE[0], 0), (NODE[1], 4)]);
+    let visible = [Kind::Allocate, Kind::Publish, Kind::Protect, Kind::Drain, Kind::Remove, Kind::Retire].map(of);
+    let visible = [visible.to_vec(), vec![of(Kind::Tick); 4], turnover(1, 60)].concat();
     vec![
-        at(
-            "T = 3, a scan at clock 3 keeps the node",
-            [1, 1, 2, 3, 1, 1],
-            scan_after(3),
-            &[],
-            &[(NODE[0], 4), (NODE[1], 4)],
-        ),
-        at("at clock 4 it frees it", [1, 1, 2, 3, 1, 1], scan_after(4), &[(11, 0, 1)], &[(NODE[0], 0), (NODE[1], 4)]),
-        at(
-            "and keeps it if visible",
-            [1, 1, 2, 3, 1, 1],
-            [visible, vec![of(Kind::Tick); 4], turnover(1, 60)].concat(),
-            &[],
-            &[(NODE[0], 4), (NODE[1], 4)],
-        ),
-        at(
-            "the eighth store is taken, the ninth gets 13",
-            [1, 1, 1, 1, 1, 1],
-            [vec![of(Kind::Protect); 8], vec![of(Kind::Protect), of(Kind::Clear)]].concat(),
-            &[(8, 13, 0), (9, 13, 0)],
-            &[(PENDING, 8)],
-        ),
-        at("C = 2, the first retire stays fast", [1, 1, 2, 3, 1, 2], turnover(0, 70), &[], &[(PATH, 0)]),
-        at("the second switches", [1, 1, 2, 3, 1, 2], [turnover(0, 70), turnover(1, 60)].concat(), &[], &[(PATH, 1)]),
-        at(
-            "Q = 3, two manages count",
-            [1, 1, 1, 1, 3, 1],
-            vec![of(Kind::Manage); 2],
-            &[],
-            &[(CALLS, 2), (PRESENCE, 0), (EPOCH, 0)],
-        ),
-        at(
-            "the third acts",
-            [1, 1, 1, 1, 3, 1],
-            vec![of(Kind::Manage); 3],
-            &[],
-            &[(CALLS, 0), (PRESENCE, 1), (EPOCH, 1)],
-        ),
-        at(
-            "the sixth manage frees",
-            [1, 1, 1, 1, 1, 2],
-            [turnover(0, 70), vec![of(Kind::Manage); 6]].concat(),
-            &[(9, 0, 1)],
-            &[(NODE[0], 0)],
-        ),
-        Case {
-            name: "the last clock with a due store gets 15",
-            words: stopped,
-            steps: vec![of(Kind::Tick)],
-            answers: vec![(0, 15, 0)],
-            after: vec![(CLOCK, u32::MAX), (PENDING, 1)],
-        },
-        at(
-            "use after protect without check gets 12",
-            [1, 1, 1, 1, 1, 1],
-            [Kind::Allocate, Kind::Publish, Kind::Protect, Kind::Use].map(of).to_vec(),
-            &[(3, 12, 0)],
-            &[(VALIDATED, 0)],
-        ),
-        at(
-            "a check refused with 11 keeps an old claim",
-            [1, 1, 1, 1, 1, 1],
-            [
-                vec![Step::new(Kind::Allocate, 0, 0, 0, 70)],
-                claimed[1..].to_vec(),
-                [Kind::Remove, Kind::Check, Kind::Use].map(of).to_vec(),
-            ]
-            .concat(),
-            &[(5, 11, 0), (6, 0, 70)],
-            &[(VALIDATED, 1)],
-        ),
+        case("T = 3, a scan at clock 3 keeps the node", numbers, scan_after(3), &[], &kept),
+        case("at clock 4 it frees it", numbers, scan_after(4), &[(11, 0, 1)], &freed),
+        case("and keeps it if visible", numbers, visible, &[], &kept),
     ]
+}
+
+fn thresholds() -> Vec<Case> {
+    let full = [vec![of(Kind::Protect); 8], vec![of(Kind::Protect), of(Kind::Clear)]].concat();
+    let (one, two) = (turnover(0, 70), [turnover(0, 70), turnover(1, 60)].concat());
+    let manages = |count| vec![of(Kind::Manage); count];
+    let (counted, acted) = ([(CALLS, 2), (PRESENCE, 0), (EPOCH, 0)], [(CALLS, 0), (PRESENCE, 1), (EPOCH, 1)]);
+    let sixth = [turnover(0, 70), manages(6)].concat();
+    vec![
+        case("the eighth store is taken, the ninth gets 13", [1; 6], full, &[(8, 13, 0), (9, 13, 0)], &[(PENDING, 8)]),
+        case("C = 2, the first retire stays fast", [1, 1, 2, 3, 1, 2], one, &[], &[(PATH, 0)]),
+        case("the second switches", [1, 1, 2, 3, 1, 2], two, &[], &[(PATH, 1)]),
+        case("Q = 3, two manages count", [1, 1, 1, 1, 3, 1], manages(2), &[], &counted),
+        case("the third acts", [1, 1, 1, 1, 3, 1], manages(3), &[], &acted),
+        case("the sixth manage frees", [1, 1, 1, 1, 1, 2], sixth, &[(9, 0, 1)], &[(NODE[0], 0)]),
+    ]
+}
+
+fn claims() -> Vec<Case> {
+    let published = vec![Step::new(Kind::Allocate, 0, 0, 0, 70), of(Kind::Publish), of(Kind::Protect)];
+    let unchecked = [published.clone(), vec![of(Kind::Use)]].concat();
+    let removed = [published, [Kind::Check, Kind::Remove, Kind::Check, Kind::Use].map(of).to_vec()].concat();
+    let answers = [(5, 11, 0), (6, 0, 70)];
+    vec![
+        case("use after protect without check gets 12", [1; 6], unchecked, &[(3, 12, 0)], &[(VALIDATED, 0)]),
+        case("a check refused with 11 keeps an old claim", [1; 6], removed, &answers, &[(VALIDATED, 1)]),
+    ]
+}
+
+/// The last clock, and a pending store to hazard 0 that is 3 = T ticks old.
+fn stopped() -> Case {
+    let mut words = fresh([1, 1, 1, 3, 1, 1]);
+    (words[CLOCK], words[PENDING], words[STORE + 1], words[STORE + 2]) = (u32::MAX, 1, 1, u32::MAX - 3);
+    Case {
+        name: "the last clock with a due store gets 15",
+        words,
+        steps: vec![of(Kind::Tick)],
+        answers: vec![(0, 15, 0)],
+        after: vec![(CLOCK, u32::MAX), (PENDING, 1)],
+    }
 }

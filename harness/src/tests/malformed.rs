@@ -57,7 +57,7 @@ pub fn broken_in_turn(
 /// Words that must be refused with 3 by every call.
 fn refused(calls: &Calls, rules: Rules, words: &[u32], step: Step, coverage: &mut Coverage) -> Result<(), String> {
     let answer = on_words(calls, rules, words, step)?;
-    coverage.malformed(answer);
+    coverage.on_words(answer);
     if answer != Answer::refused(3) {
         return Err(format!("{answer} by both, expected 3"));
     }
@@ -96,7 +96,7 @@ pub fn some_words(
         }
         let answer = on_words(calls, rules, &words, any_step(&mut random))
             .map_err(|wrong| format!("seed {seed}, case {index}: {wrong}"))?;
-        coverage.malformed(answer);
+        coverage.on_words(answer);
         still_good += (answer.refusal != 3) as u64;
     }
     Ok(format!("{cases} cases, {still_good} of them still well formed"))

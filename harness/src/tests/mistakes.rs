@@ -17,6 +17,7 @@ use crate::schedule::Mood;
 const ROUNDS: u64 = 400;
 
 pub fn all(report: &mut Report, calls: &Calls, seed: u64) {
+    report.test("not told from the model without a mistake", || alike(calls, seed));
     for &mistake in Mistake::ALL {
         report.test(&format!("told from the model with {mistake:?}"), || found(calls, mistake, seed));
     }
@@ -33,6 +34,15 @@ fn found(calls: &Calls, mistake: Mistake, seed: u64) -> Result<String, String> {
         }
     }
     Err(format!("no difference in {} steps", coverage.steps))
+}
+
+/// The same rounds with the rules as they are: what the others find is their mistake.
+fn alike(calls: &Calls, seed: u64) -> Result<String, String> {
+    let mut coverage = Coverage::default();
+    for round in 0..ROUNDS {
+        compare(calls, Rules::default(), seed, round, &mut coverage)?;
+    }
+    Ok(format!("{} steps", coverage.steps))
 }
 
 /// A round of each comparison.
