@@ -19,24 +19,19 @@ pub fn all() {
     // the node in hand is 0 ticks old, so at most 255 are due
     for due in [3, 67, 255] {
         let start: Vec<Vec<u32>> = (0..DOMAINS).map(|seed| scanning(due, seed as u64)).collect();
-        let schedule: Vec<_> = (0..DOMAINS).map(|domain| (domain, Step::new(Kind::Retire, 0, 0, 0, 0))).collect();
-        let check: Vec<_> = schedule.iter().map(|&(domain, _)| (domain, none)).collect();
-        let (whole, check) = (times(&start, &schedule), times(&start, &check));
-        library.push(whole[0]);
-        let row = |time: [f64; 2]| Row { library: time[0], plain: time[1], ..Row::default() };
-        line(&format!("16 8 256, retire with scan, {due} nodes due"), row(whole));
-        let scan = [whole[0] - check[0], whole[1] - check[1]];
-        line(&format!("16 8 256, the same less its check, {due} nodes due"), row(scan));
+        let each = |step| (0..DOMAINS).map(|domain| (domain, step)).collect::<Vec<_>>();
+        let (retires, checks) = (each(Step::new(Kind::Retire, 0, 0, 0, 0)), each(none));
+        let [mut a, mut b] = [&QSENSE, &PLAIN].map(|calls| Steps::new(calls, &start, &retires));
+        let [mut c, mut d] = [&QSENSE, &PLAIN].map(|calls| Steps::new(calls, &start, &checks));
+        let best = race(ROUNDS, DOMAINS, &mut [&mut a, &mut b, &mut c, &mut d]);
+        let row = |library, plain| Row { library, plain, ..Row::default() };
+        line(&format!("16 8 256, retire with scan, {due} nodes due"), row(best[0], best[1]));
+        let less = row(best[0] - best[2], best[1] - best[3]);
+        line(&format!("16 8 256, the same less its check, {due} nodes due"), less);
+        library.push(best[0]);
     }
     let (least, most) = library.iter().fold((f64::MAX, 0f64), |(least, most), &t| (least.min(t), most.max(t)));
     println!("the library's slowest retire takes {:.2} of its fastest", most / least);
-}
-
-/// The library's time and plain C's.
-fn times(start: &[Vec<u32>], schedule: &[(usize, Step)]) -> [f64; 2] {
-    let (mut library, mut plain) = (Steps::new(&QSENSE, start, schedule), Steps::new(&PLAIN, start, schedule));
-    let best = race(ROUNDS, schedule.len(), &mut [&mut library, &mut plain]);
-    [best[0], best[1]]
 }
 
 /// A domain on the fallback path whose every hazard has a node visible. Process 0 has removed node 0 and retired the others, `due` of
