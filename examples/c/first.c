@@ -1,0 +1,18 @@
+/* One process publishes a node, another claims and uses it. */
+#include "qsense.h"
+#include <stdio.h>
+
+int main(void) {
+    uint32_t words[2121]; /* room for the greatest domain */
+    size_t len = qsense_length(2, 1, 2);
+    qsense_answer made = qsense_make(words, len, 2, 1, 2, 3, 1, 1);
+    qsense_step(words, len, 1, 0, 0, 0, 70);                       /* process 0 allocates node 0 for guest 70 */
+    qsense_step(words, len, 2, 0, 0, 0, 0);                        /* and publishes it */
+    qsense_step(words, len, 3, 1, 0, 0, 0);                        /* process 1 protects it by its hazard 0 */
+    qsense_step(words, len, 4, 1, 0, 0, 0);                        /* and checks that it is still Reachable */
+    qsense_answer used = qsense_step(words, len, 5, 1, 0, 0, 0);   /* from now on it may use it */
+    qsense_answer twice = qsense_step(words, len, 1, 1, 0, 0, 71); /* node 0 is not Free */
+    qsense_answer reachable = qsense_reachable(words, len);
+    printf("made %u, guest %u, refused %u, reachable %u\n", made.refusal, used.value, twice.refusal, reachable.value);
+    return 0;
+}

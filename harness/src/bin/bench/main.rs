@@ -1,0 +1,38 @@
+//! bench [--desk PATH]
+//! The library, plain C (gcc -O3, bench/plain.c) and the harness's model side by side in one process. Contenders take turns round by
+//! round, and the best round of each counts. Buffers are not cleared between rounds; where a row changes its domains, they are copied
+//! back before each round, and that is not timed.
+
+mod cycles;
+mod processes;
+mod race;
+mod retire;
+mod rows;
+mod table;
+
+use harness::params::Params;
+use std::path::PathBuf;
+
+/// The least shape, the worked book's, a middling one, the greatest: each with T, Q and C at which paths switch and nodes are freed.
+const SHAPES: [[u32; 6]; 4] = [[1, 1, 1, 3, 2, 1], [2, 1, 2, 3, 2, 1], [4, 2, 32, 5, 2, 8], [16, 8, 256, 5, 2, 24]];
+
+fn main() {
+    let mut words = std::env::args().skip(1);
+    let desk = match (words.next().as_deref(), words.next()) {
+        (Some("--desk"), Some(path)) => Some(PathBuf::from(path)),
+        (None, None) => None,
+        _ => {
+            eprintln!("bench: say nothing, or --desk PATH");
+            std::process::exit(2);
+        }
+    };
+    table::head();
+    for shape in SHAPES {
+        rows::all(Params::from_numbers(shape));
+    }
+    retire::all();
+    cycles::all(Params::from_numbers(SHAPES[3]));
+    if let Some(desk) = desk {
+        processes::all(&desk, "target/plain/desk".as_ref());
+    }
+}

@@ -1,0 +1,67 @@
+//! A book of 5,000 steps through whole processes: the program `desk` beside the same in plain C.
+
+use crate::race::{race, Work};
+use crate::rows::shape;
+use crate::table::{line, Row};
+use harness::book::{print, write};
+use harness::model::mistake::Rules;
+use harness::model::Model;
+use harness::params::Params;
+use harness::random::Random;
+use harness::schedule::Mood;
+use harness::step::Step;
+use std::fs::File;
+use std::path::Path;
+use std::process::{Command, Output};
+
+const STEPS: usize = 5_000;
+
+struct Process<'a> {
+    program: &'a Path,
+    book: &'a Path,
+}
+
+impl Process<'_> {
+    fn output(&self) -> Output {
+        let book = File::open(self.book).expect("a book");
+        Command::new(self.program).stdin(book).output().expect("a program")
+    }
+}
+
+impl Work for Process<'_> {
+    fn run(&mut self) {
+        self.output();
+    }
+}
+
+pub fn all(desk: &Path, plain: &Path) {
+    let path = std::env::temp_dir().join(format!("qsense-bench-{}.book", std::process::id()));
+    for numbers in [[4, 2, 32, 5, 2, 8], [16, 8, 256, 5, 2, 24]] {
+        let params = Params::from_numbers(numbers);
+        let book = write(params, &schedule(params), 0);
+        std::fs::write(&path, &book).expect("a file in the folder for temporary files");
+        let [mut desk, mut plain] = [desk, plain].map(|program| Process { program, book: &path });
+        for process in [&desk, &plain] {
+            assert_eq!(
+                String::from_utf8_lossy(&process.output().stdout),
+                print(&book),
+                "{}",
+                process.program.display()
+            );
+        }
+        let best = race(40, STEPS, &mut [&mut desk, &mut plain]);
+        let name = format!("{}, a book of {STEPS} steps as a process, per step", shape(params));
+        line(&name, Row { library: best[0], plain: best[1], ..Row::default() });
+    }
+    std::fs::remove_file(&path).expect("the file that was written");
+}
+
+fn schedule(params: Params) -> Vec<Step> {
+    let (mut random, mut model, mood) = (Random::new(1, 1), Model::fresh(params, Rules::default()), Mood::steady());
+    let steps = (0..STEPS).map(|_| {
+        let step = mood.step(&mut random, &model);
+        model.step(step);
+        step
+    });
+    steps.collect()
+}

@@ -1,0 +1,122 @@
+//! Contenders that do the same work, timed in turns.
+
+use harness::library::Calls;
+use harness::model::mistake::Rules;
+use harness::model::step_words;
+use harness::step::Step;
+use std::hint::black_box;
+use std::time::Instant;
+
+/// Work that is done again and again.
+pub trait Work {
+    /// Puts back what the work changes; not timed.
+    fn restore(&mut self) {}
+    fn run(&mut self);
+}
+
+/// The best time of each in ns per unit.
+pub fn race(rounds: u32, units: usize, contenders: &mut [&mut dyn Work]) -> Vec<f64> {
+    let mut best = vec![f64::MAX; contenders.len()];
+    for _ in 0..rounds {
+        for (contender, best) in contenders.iter_mut().zip(&mut best) {
+            contender.restore();
+            let start = Instant::now();
+            contender.run();
+            *best = best.min(start.elapsed().as_nanos() as f64 / units as f64);
+        }
+    }
+    best
+}
+
+/// Steps, each on one of some domains.
+pub struct Steps<'a> {
+    calls: &'a Calls,
+    start: &'a [Vec<u32>],
+    domains: Vec<Vec<u32>>,
+    schedule: &'a [(usize, Step)],
+}
+
+impl<'a> Steps<'a> {
+    pub fn new(calls: &'a Calls, start: &'a [Vec<u32>], schedule: &'a [(usize, Step)]) -> Steps<'a> {
+        Steps { calls, start, domains: start.to_vec(), schedule }
+    }
+}
+
+impl Work for Steps<'_> {
+    fn restore(&mut self) {
+        for (domain, start) in self.domains.iter_mut().zip(self.start) {
+            domain.copy_from_slice(start);
+        }
+    }
+
+    fn run(&mut self) {
+        for &(domain, step) in self.schedule {
+            black_box(self.calls.step(&mut self.domains[domain], step));
+        }
+    }
+}
+
+/// The same steps by the model: words to records and back.
+pub struct ModelSteps<'a> {
+    start: &'a [Vec<u32>],
+    domains: Vec<Vec<u32>>,
+    schedule: &'a [(usize, Step)],
+}
+
+impl<'a> ModelSteps<'a> {
+    pub fn new(start: &'a [Vec<u32>], schedule: &'a [(usize, Step)]) -> ModelSteps<'a> {
+        ModelSteps { start, domains: start.to_vec(), schedule }
+    }
+}
+
+impl Work for ModelSteps<'_> {
+    fn restore(&mut self) {
+        self.domains = self.start.to_vec();
+    }
+
+    fn run(&mut self) {
+        for &(domain, step) in self.schedule {
+            black_box(step_words(&mut self.domains[domain], step, Rules::default()));
+        }
+    }
+}
+
+/// One run of a list of steps.
+pub struct Run<'a> {
+    calls: &'a Calls,
+    start: &'a [u32],
+    words: Vec<u32>,
+    steps: &'a [u32],
+    answers: Vec<u32>,
+}
+
+impl<'a> Run<'a> {
+    pub fn new(calls: &'a Calls, start: &'a [u32], steps: &'a [u32]) -> Run<'a> {
+        Run { calls, start, words: start.to_vec(), steps, answers: vec![0; steps.len() / 5 * 2] }
+    }
+}
+
+impl Work for Run<'_> {
+    fn restore(&mut self) {
+        self.words.copy_from_slice(self.start);
+    }
+
+    fn run(&mut self) {
+        assert!(self.calls.run(&mut self.words, self.steps, &mut self.answers));
+    }
+}
+
+/// The reachable count of each domain in turn.
+pub struct Counts<'a> {
+    pub calls: &'a Calls,
+    pub domains: &'a [Vec<u32>],
+    pub turns: usize,
+}
+
+impl Work for Counts<'_> {
+    fn run(&mut self) {
+        for turn in 0..self.turns {
+            black_box(self.calls.reachable(&self.domains[turn % self.domains.len()]));
+        }
+    }
+}

@@ -1,0 +1,103 @@
+//! Check, step, run and count at one shape, on one domain and on 64 in turn.
+
+use crate::race::{race, Counts, ModelSteps, Run, Steps};
+use crate::table::{line, Row};
+use harness::arbitrary;
+use harness::library::{PLAIN, QSENSE, TRUSTING};
+use harness::model::mistake::Rules;
+use harness::model::words::encode;
+use harness::model::Model;
+use harness::params::Params;
+use harness::random::Random;
+use harness::schedule::Mood;
+use harness::step::Step;
+
+const ROUNDS: u32 = 200;
+const MODEL_ROUNDS: u32 = 10;
+const STEPS: usize = 5_000;
+
+/// Domains with their words and a schedule of mostly accepted steps, which visits them in turn.
+struct Plan {
+    start: Vec<Vec<u32>>,
+    schedule: Vec<(usize, Step)>,
+}
+
+impl Plan {
+    fn new(params: Params, domains: usize) -> Plan {
+        let mut random = Random::new(1, domains as u64);
+        let mut models: Vec<Model> = (0..domains).map(|_| running(&mut random, params)).collect();
+        let start = models.iter().map(words).collect();
+        let mood = Mood::steady();
+        let schedule = (0..STEPS).map(|turn| {
+            let model = &mut models[turn % domains];
+            let step = mood.step(&mut random, model);
+            model.step(step);
+            (turn % domains, step)
+        });
+        Plan { schedule: schedule.collect(), start }
+    }
+
+    /// Steps of a kind that there is not, which are answered right after the check.
+    fn unknown(&self) -> Vec<(usize, Step)> {
+        let none = Step { kind: 0, process: 0, hazard: 0, node: 0, guest: 0 };
+        (0..STEPS).map(|turn| (turn % self.start.len(), none)).collect()
+    }
+}
+
+/// A domain of any content, with a clock that can go on.
+fn running(random: &mut Random, params: Params) -> Model {
+    loop {
+        let domain = arbitrary::domain(random, params);
+        if (10..1 << 31).contains(&domain.clock) {
+            return Model { rules: Rules::default(), domain };
+        }
+    }
+}
+
+fn words(model: &Model) -> Vec<u32> {
+    let mut words = Vec::new();
+    encode(&model.domain, &mut words);
+    words
+}
+
+pub fn all(params: Params) {
+    let shape = shape(params);
+    for domains in [1, 64] {
+        let plan = Plan::new(params, domains);
+        let name =
+            |what: &str| format!("{shape}, {what}, {domains} domain{}", if domains == 1 { "" } else { "s in turn" });
+        steps(&name("check alone"), &plan.start, &plan.unknown());
+        steps(&name("step"), &plan.start, &plan.schedule);
+        count(&name("reachable count"), &plan.start);
+        if domains == 1 {
+            run(&format!("{shape}, run of {STEPS} steps"), &plan.start[0], &plan.schedule);
+        }
+    }
+}
+
+/// N, K and M.
+pub fn shape(params: Params) -> String {
+    format!("{} {} {}", params.processes, params.hazards, params.nodes)
+}
+
+fn steps(name: &str, start: &[Vec<u32>], schedule: &[(usize, Step)]) {
+    let (mut library, mut plain) = (Steps::new(&QSENSE, start, schedule), Steps::new(&PLAIN, start, schedule));
+    let best = race(ROUNDS, STEPS, &mut [&mut library, &mut plain]);
+    let model = race(MODEL_ROUNDS, STEPS, &mut [&mut ModelSteps::new(start, schedule)])[0];
+    line(name, Row { library: best[0], plain: best[1], model: Some(model), ..Row::default() });
+}
+
+fn count(name: &str, domains: &[Vec<u32>]) {
+    let [mut library, mut plain] = [&QSENSE, &PLAIN].map(|calls| Counts { calls, domains, turns: STEPS });
+    let best = race(ROUNDS, STEPS, &mut [&mut library, &mut plain]);
+    line(name, Row { library: best[0], plain: best[1], ..Row::default() });
+}
+
+/// A run by the library, by C that checks before each step, and by C that checks once and trusts itself.
+pub fn run(name: &str, start: &[u32], schedule: &[(usize, Step)]) {
+    let steps: Vec<u32> = schedule.iter().flat_map(|(_, step)| step.numbers()).collect();
+    let [mut library, mut plain, mut trusting] =
+        [&QSENSE, &PLAIN, &TRUSTING].map(|calls| Run::new(calls, start, &steps));
+    let best = race(ROUNDS, schedule.len(), &mut [&mut library, &mut plain, &mut trusting]);
+    line(name, Row { library: best[0], plain: best[1], trusting: Some(best[2]), ..Row::default() });
+}

@@ -1,0 +1,122 @@
+//! Step books and their print, by the paper: bytes from steps, steps from bytes, and what the model answers.
+
+use crate::library::Calls;
+use crate::model::mistake::Rules;
+use crate::model::Model;
+use crate::params::Params;
+use crate::step::{Answer, Step};
+use std::fmt::Write;
+
+pub const MARK: &[u8; 4] = b"QBAK";
+pub const GREATEST: usize = 65_536;
+
+/// How many steps fit in a book.
+pub const MOST_STEPS: usize = (GREATEST - 36) / 12;
+
+/// A book of these steps, whose kind, process and hazard fit a byte; `unread` goes to the byte that nobody reads.
+pub fn write(params: Params, steps: &[Step], unread: u8) -> Vec<u8> {
+    let mut bytes: Vec<u8> = params.numbers().iter().flat_map(|number| number.to_le_bytes()).collect();
+    for step in steps {
+        bytes.extend([step.kind as u8, step.process as u8, step.hazard as u8, unread]);
+        bytes.extend(step.node.to_le_bytes());
+        bytes.extend(step.guest.to_le_bytes());
+    }
+    let count = steps.len() as u32;
+    bytes.extend(trailer(count, 36 + 12 * count));
+    bytes
+}
+
+pub fn trailer(count: u32, distance: u32) -> Vec<u8> {
+    [count.to_le_bytes(), distance.to_le_bytes(), *MARK].concat()
+}
+
+/// The parameters and steps of a book, or the number of its refusal.
+fn read(bytes: &[u8]) -> Result<(Params, Vec<Step>), u32> {
+    if bytes.len() > GREATEST {
+        return Err(18);
+    }
+    let trailer = bytes.len().checked_sub(12).ok_or(19u32)?;
+    let (count, distance) = (word(bytes, trailer) as u64, word(bytes, trailer + 4) as u64);
+    if bytes[trailer + 8..] != MARK[..] || distance != 36 + 12 * count || distance > bytes.len() as u64 {
+        return Err(19);
+    }
+    let start = bytes.len() - distance as usize;
+    let params = Params::from_numbers(std::array::from_fn(|place| word(bytes, start + 4 * place)));
+    if !params.in_range() {
+        return Err(1);
+    }
+    let steps = (0..count as usize).map(|number| step(&bytes[start + 24 + 12 * number..]));
+    Ok((params, steps.collect()))
+}
+
+fn word(bytes: &[u8], at: usize) -> u32 {
+    u32::from_le_bytes(bytes[at..at + 4].try_into().expect("four bytes"))
+}
+
+fn step(bytes: &[u8]) -> Step {
+    let [kind, process, hazard] = [bytes[0], bytes[1], bytes[2]].map(u32::from);
+    Step { kind, process, hazard, node: word(bytes, 4), guest: word(bytes, 8) }
+}
+
+/// What takes the steps of a book.
+trait Desk {
+    /// The answer, and the panel after it.
+    fn take(&mut self, step: Step) -> (Answer, u32);
+    /// Clock, path and panel.
+    fn end(&self) -> [u32; 3];
+}
+
+impl Desk for Model {
+    fn take(&mut self, step: Step) -> (Answer, u32) {
+        (self.step(step), self.domain.reachable())
+    }
+
+    fn end(&self) -> [u32; 3] {
+        [self.domain.clock, self.domain.path as u32, self.domain.reachable()]
+    }
+}
+
+struct Words<'a> {
+    calls: &'a Calls,
+    words: Vec<u32>,
+}
+
+impl Desk for Words<'_> {
+    fn take(&mut self, step: Step) -> (Answer, u32) {
+        (self.calls.step(&mut self.words, step), self.calls.reachable(&self.words).value)
+    }
+
+    fn end(&self) -> [u32; 3] {
+        [self.words[6], self.words[7], self.calls.reachable(&self.words).value]
+    }
+}
+
+/// What `desk` is to print for these bytes.
+pub fn print(bytes: &[u8]) -> String {
+    print_by(bytes, |params| Model::fresh(params, Rules::default()))
+}
+
+/// The same by the library's calls.
+pub fn print_by_calls(calls: &Calls, bytes: &[u8]) -> String {
+    print_by(bytes, |params| {
+        let mut words = vec![0; params.word_count()];
+        calls.make(&mut words, params);
+        Words { calls, words }
+    })
+}
+
+fn print_by<D: Desk>(bytes: &[u8], fresh: impl Fn(Params) -> D) -> String {
+    let (params, steps) = match read(bytes) {
+        Ok(book) => book,
+        Err(number) => return format!("refused {number}\n"),
+    };
+    let mut desk = fresh(params);
+    let mut text = format!("desk {params}\n");
+    for (number, step) in steps.into_iter().enumerate() {
+        let (answer, panel) = desk.take(step);
+        writeln!(text, "{number} {} {answer} {panel}", step.kind).expect("a string");
+    }
+    let [clock, path, panel] = desk.end();
+    writeln!(text, "end {clock} {path} {panel}").expect("a string");
+    text
+}

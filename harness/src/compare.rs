@@ -1,0 +1,103 @@
+//! The library beside the model: every answer and every word, on a run or on any words.
+
+use crate::coverage::Coverage;
+use crate::library::{Calls, Lent};
+use crate::model::domain::Domain;
+use crate::model::mistake::Rules;
+use crate::model::{reachable_words, step_words, words, Model};
+use crate::params::Params;
+use crate::reference::Reference;
+use crate::step::{Answer, Step};
+
+/// A run of the library, of the model and, from a fresh domain, of the reference.
+pub struct Lockstep<'a> {
+    calls: &'a Calls,
+    pub model: Model,
+    lent: Lent,
+    expected: Vec<u32>,
+    reference: Option<Reference>,
+}
+
+impl<'a> Lockstep<'a> {
+    /// From a domain that the library makes over `rubbish` words.
+    pub fn fresh(calls: &'a Calls, rules: Rules, params: Params, rubbish: u32) -> Result<Lockstep<'a>, String> {
+        let mut lent = Lent::new(&vec![rubbish; params.word_count()]);
+        let answer = calls.make(lent.words_mut(), params);
+        let mut run = Lockstep {
+            calls,
+            model: Model::fresh(params, rules),
+            lent,
+            expected: Vec::new(),
+            reference: Some(Reference::new(params)),
+        };
+        run.agree("make", answer, Answer::accepted(0))?;
+        Ok(run)
+    }
+
+    /// From any domain.
+    pub fn from(calls: &'a Calls, rules: Rules, domain: Domain) -> Lockstep<'a> {
+        let mut expected = Vec::new();
+        words::encode(&domain, &mut expected);
+        Lockstep { calls, model: Model { rules, domain }, lent: Lent::new(&expected), expected, reference: None }
+    }
+
+    pub fn step(&mut self, step: Step, coverage: &mut Coverage) -> Result<(), String> {
+        coverage.before(&self.model.domain, step);
+        let expected = self.model.step(step);
+        let answer = self.calls.step(self.lent.words_mut(), step);
+        self.agree("step", answer, expected)?;
+        let panel = self.calls.reachable(self.lent.words());
+        self.agree("reachable", panel, Answer::accepted(self.model.domain.reachable()))?;
+        if let Some(reference) = &mut self.reference {
+            reference.follow(step, answer, self.lent.words()).map_err(|e| format!("reference: {e}"))?;
+        }
+        coverage.after(&self.model.domain, step, answer);
+        Ok(())
+    }
+
+    fn agree(&mut self, call: &str, answer: Answer, expected: Answer) -> Result<(), String> {
+        words::encode(&self.model.domain, &mut self.expected);
+        same(call, answer, &self.lent, expected, &self.expected)
+    }
+}
+
+/// One step, and the reachable count before it, on any words.
+pub fn on_words(calls: &Calls, rules: Rules, start: &[u32], step: Step) -> Result<Answer, String> {
+    let mut lent = Lent::new(start);
+    let mut expected = start.to_vec();
+    same("reachable", calls.reachable(lent.words()), &lent, reachable_words(start, rules), start)?;
+    let expected_answer = step_words(&mut expected, step, rules);
+    let answer = calls.step(lent.words_mut(), step);
+    same("step", answer, &lent, expected_answer, &expected)?;
+    Ok(answer)
+}
+
+/// Whether a call answered and left what was expected.
+pub fn same(call: &str, answer: Answer, lent: &Lent, expected_answer: Answer, expected: &[u32]) -> Result<(), String> {
+    if answer != expected_answer {
+        return Err(format!("{call}: {answer}, expected {expected_answer}"));
+    }
+    if lent.words() != expected {
+        let at = lent.words().iter().zip(expected).position(|(x, y)| x != y).expect("a word that differs");
+        let (word, right) = (lent.words()[at], expected[at]);
+        return Err(format!("{call}: {} is {word}, expected {right}", place(expected, at)));
+    }
+    match lent.is_intact() {
+        true => Ok(()),
+        false => Err(format!("{call}: wrote outside its words")),
+    }
+}
+
+/// What the word at this index is part of.
+fn place(words: &[u32], index: usize) -> String {
+    let Some(params) = words::decode(words, Rules::default()).map(|domain| domain.params) else {
+        return format!("word {index}");
+    };
+    let width = 28 + 3 * params.hazards as usize;
+    let nodes = 9 + params.processes as usize * width;
+    match index {
+        0..9 => format!("word {index} of the head"),
+        _ if index < nodes => format!("word {} of process {}", (index - 9) % width, (index - 9) / width),
+        _ => format!("word {} of node {}", (index - nodes) % 5, (index - nodes) / 5),
+    }
+}

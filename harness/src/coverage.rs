@@ -1,0 +1,104 @@
+//! What a run of tests has met: without these counts, agreement would say little.
+
+use crate::model::domain::{Domain, Node, Path, BUFFER};
+use crate::step::{Answer, Kind, Step};
+
+#[derive(Default)]
+pub struct Coverage {
+    pub steps: u64,
+    accepted: [u64; 14],
+    refused: [u64; 18],
+    to_fallback: u64,
+    to_fast: u64,
+    freed_by_scan: u64,
+    freed_by_epoch: u64,
+    kept_while_visible: u64,
+    eighth_stores: u64,
+    retired_while_validated: u64,
+    clock_at_end: u64,
+    unread_fields: u64,
+    // of the domain before the step in hand
+    path: Option<Path>,
+    pending: usize,
+    validated: bool,
+}
+
+impl Coverage {
+    /// Notes what is about to be changed by a step.
+    pub fn before(&mut self, domain: &Domain, step: Step) {
+        self.path = Some(domain.path);
+        self.pending = domain.processes.get(step.process as usize).map_or(0, |process| process.buffer.len());
+        self.validated = domain.all_hazards().any(|hazard| hazard.validated && hazard.assigned == Some(step.node));
+    }
+
+    /// Counts a step that was answered so and left this domain.
+    pub fn after(&mut self, domain: &Domain, step: Step, answer: Answer) {
+        self.steps += 1;
+        self.clock_at_end += (domain.clock == u32::MAX) as u64;
+        self.refused[answer.refusal as usize] += 1;
+        let (0, Some(kind)) = (answer.refusal, Kind::from_number(step.kind)) else {
+            return;
+        };
+        self.accepted[step.kind as usize] += 1;
+        self.unread_fields += has_unread(kind, step) as u64;
+        self.to_fallback += (self.path == Some(Path::Fast) && domain.path == Path::Fallback) as u64;
+        self.to_fast += (self.path == Some(Path::Fallback) && domain.path == Path::Fast) as u64;
+        match kind {
+            Kind::Retire => {
+                self.freed_by_scan += answer.value as u64;
+                self.retired_while_validated += self.validated as u64;
+                self.kept_while_visible +=
+                    (domain.path == Path::Fallback && keeps_visible(domain, step.process)) as u64;
+            }
+            Kind::Manage => self.freed_by_epoch += answer.value as u64,
+            Kind::Protect | Kind::Clear => self.eighth_stores += (self.pending + 1 == BUFFER) as u64,
+            _ => {}
+        }
+    }
+
+    /// Counts an answer given on words that need not be a domain.
+    pub fn on_words(&mut self, answer: Answer) {
+        self.steps += 1;
+        self.refused[answer.refusal as usize] += 1;
+    }
+
+    /// Every count with its name.
+    pub fn counts(&self) -> Vec<(String, u64)> {
+        let kinds = Kind::ALL.iter().map(|&kind| (format!("accepted {kind:?}"), self.accepted[kind as usize]));
+        let numbers = (3..=17).map(|number| (format!("refused {number}"), self.refused[number]));
+        let others = [
+            ("switched to fallback", self.to_fallback),
+            ("switched to fast", self.to_fast),
+            ("nodes freed by a scan", self.freed_by_scan),
+            ("nodes freed by an epoch", self.freed_by_epoch),
+            ("scans that kept a visible node", self.kept_while_visible),
+            ("eighth stores taken", self.eighth_stores),
+            ("retired while validated", self.retired_while_validated),
+            ("steps at the last clock", self.clock_at_end),
+            ("accepted with unread fields", self.unread_fields),
+        ];
+        let others = others.map(|(name, count)| (name.to_string(), count));
+        kinds.chain(numbers).chain(others).collect()
+    }
+
+    pub fn accepted_percent(&self) -> u64 {
+        100 * self.refused[0] / self.steps.max(1)
+    }
+}
+
+fn has_unread(kind: Kind, step: Step) -> bool {
+    (!kind.reads_process() && step.process != 0)
+        || (!kind.reads_hazard() && step.hazard != 0)
+        || (!kind.reads_node() && step.node != 0)
+        || (!kind.reads_guest() && step.guest != 0)
+}
+
+/// Whether a node of the owner is old enough for a scan and still there, because a hazard with it is visible.
+fn keeps_visible(domain: &Domain, scanner: u32) -> bool {
+    let old = |node: &Node| {
+        matches!(*node, Node::Retired { owner, retired_at, .. }
+        if owner == scanner && domain.clock - retired_at > domain.params.visibility_bound)
+    };
+    let visible = domain.all_hazards().filter_map(|hazard| hazard.visible);
+    visible.into_iter().any(|id| old(domain.node(id)))
+}

@@ -1,0 +1,16 @@
+//! Tests of the library beside an independent model of document 01, and the parts of the benchmark.
+
+pub mod arbitrary;
+pub mod book;
+pub mod broken;
+pub mod compare;
+pub mod coverage;
+pub mod library;
+pub mod model;
+pub mod params;
+pub mod random;
+pub mod reference;
+pub mod report;
+pub mod schedule;
+pub mod step;
+pub mod tests;

@@ -1,0 +1,105 @@
+//! The calls under test: the library's, and those of plain C, which take and answer the same.
+
+use crate::params::Params;
+use crate::step::{Answer, Step};
+
+type Length = unsafe extern "C" fn(u32, u32, u32) -> u32;
+type Make = unsafe extern "C" fn(*mut u32, usize, u32, u32, u32, u32, u32, u32) -> Answer;
+type StepCall = unsafe extern "C" fn(*mut u32, usize, u32, u32, u32, u32, u32) -> Answer;
+type Reachable = unsafe extern "C" fn(*const u32, usize) -> Answer;
+type Run = unsafe extern "C" fn(*mut u32, usize, *const u32, usize, *mut u32, usize) -> bool;
+
+// as in include/qsense.h and bench/plain.h
+extern "C" {
+    fn qsense_length(n: u32, k: u32, m: u32) -> u32;
+    fn qsense_make(w: *mut u32, len: usize, n: u32, k: u32, m: u32, t: u32, q: u32, c: u32) -> Answer;
+    fn qsense_step(w: *mut u32, len: usize, kind: u32, process: u32, hazard: u32, node: u32, guest: u32) -> Answer;
+    fn qsense_reachable(w: *const u32, len: usize) -> Answer;
+    fn qsense_run(w: *mut u32, len: usize, s: *const u32, s_len: usize, a: *mut u32, a_len: usize) -> bool;
+    fn plain_length(n: u32, k: u32, m: u32) -> u32;
+    fn plain_make(w: *mut u32, len: usize, n: u32, k: u32, m: u32, t: u32, q: u32, c: u32) -> Answer;
+    fn plain_step(w: *mut u32, len: usize, kind: u32, process: u32, hazard: u32, node: u32, guest: u32) -> Answer;
+    fn plain_reachable(w: *const u32, len: usize) -> Answer;
+    fn plain_run(w: *mut u32, len: usize, s: *const u32, s_len: usize, a: *mut u32, a_len: usize) -> bool;
+    fn plain_run_trusting(w: *mut u32, len: usize, s: *const u32, s_len: usize, a: *mut u32, a_len: usize) -> bool;
+}
+
+pub struct Calls {
+    length: Length,
+    make: Make,
+    step: StepCall,
+    reachable: Reachable,
+    run: Run,
+}
+
+pub static QSENSE: Calls =
+    Calls { length: qsense_length, make: qsense_make, step: qsense_step, reachable: qsense_reachable, run: qsense_run };
+
+pub static PLAIN: Calls =
+    Calls { length: plain_length, make: plain_make, step: plain_step, reachable: plain_reachable, run: plain_run };
+
+/// Plain C whose run checks the words once.
+pub static TRUSTING: Calls = Calls { run: plain_run_trusting, ..PLAIN };
+
+impl Calls {
+    pub fn length(&self, n: u32, k: u32, m: u32) -> u32 {
+        unsafe { (self.length)(n, k, m) }
+    }
+
+    pub fn make(&self, words: &mut [u32], params: Params) -> Answer {
+        let [n, k, m, t, q, c] = params.numbers();
+        unsafe { (self.make)(words.as_mut_ptr(), words.len(), n, k, m, t, q, c) }
+    }
+
+    pub fn step(&self, words: &mut [u32], step: Step) -> Answer {
+        let [kind, process, hazard, node, guest] = step.numbers();
+        unsafe { (self.step)(words.as_mut_ptr(), words.len(), kind, process, hazard, node, guest) }
+    }
+
+    pub fn reachable(&self, words: &[u32]) -> Answer {
+        unsafe { (self.reachable)(words.as_ptr(), words.len()) }
+    }
+
+    pub fn run(&self, words: &mut [u32], steps: &[u32], answers: &mut [u32]) -> bool {
+        let (s, a) = (steps.as_ptr(), answers.as_mut_ptr());
+        unsafe { (self.run)(words.as_mut_ptr(), words.len(), s, steps.len(), a, answers.len()) }
+    }
+
+    /// Each call on a null pointer with length 0: the answers of make, step and reachable, and whether an empty run was taken.
+    pub fn on_nothing(&self) -> ([Answer; 3], bool) {
+        let (none, no) = (std::ptr::null_mut(), std::ptr::null());
+        unsafe {
+            let answers =
+                [(self.make)(none, 0, 1, 1, 1, 1, 1, 1), (self.step)(none, 0, 13, 0, 0, 0, 0), (self.reachable)(no, 0)];
+            (answers, (self.run)(none, 0, no, 0, none, 0))
+        }
+    }
+}
+
+const GUARD: usize = 16;
+const GUARD_WORD: u32 = 0xFE11_0A57;
+
+/// Words that are lent to a call, between two stretches that nobody may write.
+pub struct Lent(Vec<u32>);
+
+impl Lent {
+    pub fn new(words: &[u32]) -> Lent {
+        let guard = [GUARD_WORD; GUARD];
+        Lent([&guard, words, &guard].concat())
+    }
+
+    pub fn words(&self) -> &[u32] {
+        &self.0[GUARD..self.0.len() - GUARD]
+    }
+
+    pub fn words_mut(&mut self) -> &mut [u32] {
+        let end = self.0.len() - GUARD;
+        &mut self.0[GUARD..end]
+    }
+
+    /// Whether nothing was written beside the words.
+    pub fn is_intact(&self) -> bool {
+        let end = self.0.len() - GUARD;
+        self.0[..GUARD].iter().chain(&self.0[end..]).all(|&word| word == GUARD_WORD)
+    }
+}

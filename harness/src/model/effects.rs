@@ -1,0 +1,170 @@
+//! What an accepted step does, and its value.
+
+use super::domain::{Domain, Hazard, Node, Path, Process, Store};
+use super::mistake::Mistake;
+use super::Model;
+use crate::step::{Kind, Step};
+
+impl Model {
+    /// Does an accepted step of this kind, and gives its value.
+    pub(super) fn act(&mut self, kind: Kind, step: Step) -> u32 {
+        match kind {
+            Kind::Allocate => *self.node(step) = Node::Allocated { owner: step.process, guest: step.guest },
+            Kind::Publish => *self.node(step) = Node::Reachable { guest: self.node(step).guest() },
+            Kind::Protect => self.assign(step, Some(step.node)),
+            Kind::Check => self.hazard(step).validated = true,
+            Kind::Use => return self.guest(step),
+            Kind::Clear => self.assign(step, None),
+            Kind::Remove => *self.node(step) = Node::Removed { owner: step.process, guest: self.node(step).guest() },
+            Kind::Retire => return self.retire(step),
+            Kind::Drain => drain(self.process(step.process)),
+            Kind::Flush => self.flush(step.process),
+            Kind::Tick => self.domain.clock += 1,
+            Kind::Manage => return self.manage(step.process),
+            Kind::ClearPresence => self.clear_presence(),
+        }
+        0
+    }
+
+    fn node(&mut self, step: Step) -> &mut Node {
+        &mut self.domain.nodes[step.node as usize]
+    }
+
+    fn process(&mut self, process: u32) -> &mut Process {
+        &mut self.domain.processes[process as usize]
+    }
+
+    fn hazard(&mut self, step: Step) -> &mut Hazard {
+        &mut self.process(step.process).hazards[step.hazard as usize]
+    }
+
+    fn assign(&mut self, step: Step, node: Option<u32>) {
+        let keeps = self.rules.have(Mistake::ProtectKeepsValidated) && node.is_some();
+        let hazard = self.hazard(step);
+        hazard.assigned = node;
+        hazard.validated &= keeps;
+        if self.rules.have(Mistake::NoStoreOnFastPath) && self.domain.path == Path::Fast {
+            return;
+        }
+        let time = self.domain.clock;
+        self.process(step.process).buffer.push_back(Store { hazard: step.hazard, node, time });
+    }
+
+    fn guest(&self, step: Step) -> u32 {
+        let assigned = self.domain.hazard(step.process, step.hazard).assigned;
+        assigned.map_or(0, |node| self.domain.node(node).guest())
+    }
+
+    fn flush(&mut self, process: u32) {
+        let once = self.rules.have(Mistake::FlushDrainsOnce);
+        let process = self.process(process);
+        while !process.buffer.is_empty() {
+            drain(process);
+            if once {
+                break;
+            }
+        }
+    }
+
+    fn retire(&mut self, step: Step) -> u32 {
+        let (owner, guest) = (step.process, self.node(step).guest());
+        let (retired_at, limbo) = (self.domain.clock, self.domain.process(owner).epoch);
+        *self.node(step) = Node::Retired { owner, guest, retired_at, limbo };
+        if self.domain.path == Path::Fast {
+            let retired = self.retired_by(owner);
+            let needed = self.domain.params.fallback_threshold + self.rules.have(Mistake::SwitchesOverC) as u32;
+            if retired < needed {
+                return 0;
+            }
+            self.domain.path = Path::Fallback;
+            if !self.rules.have(Mistake::KeepsPresenceOverSwitch) {
+                self.clear_presence();
+            }
+            if self.rules.have(Mistake::SwitchesWithoutScan) {
+                return 0;
+            }
+        }
+        self.scan(owner)
+    }
+
+    fn retired_by(&self, owner: u32) -> u32 {
+        let of_all = self.rules.have(Mistake::CountsRetiredOfAll);
+        let counts = |node: &&Node| node.is_retired() && (of_all || node.owner() == Some(owner));
+        self.domain.nodes.iter().filter(counts).count() as u32
+    }
+
+    fn scan(&mut self, scanner: u32) -> u32 {
+        let rules = self.rules;
+        let Domain { clock, ref params, .. } = self.domain;
+        let seen: Vec<u32> = match rules.have(Mistake::ScanLooksAtAssigned) {
+            true => self.domain.all_hazards().filter_map(|hazard| hazard.assigned).collect(),
+            false => self.domain.all_hazards().filter_map(|hazard| hazard.visible).collect(),
+        };
+        let old = params.visibility_bound + 1 - rules.have(Mistake::FreesAtAgeT) as u32;
+        let current = self.domain.process(scanner).epoch;
+        self.free_where(|id, owner, retired_at, limbo| {
+            (owner == scanner || rules.have(Mistake::ScansNodesOfAll))
+                && clock.saturating_sub(retired_at) >= old
+                && (!seen.contains(&id) || rules.have(Mistake::NoVisibleTest))
+                && (limbo == current || !rules.have(Mistake::ScansCurrentLimboOnly))
+        })
+    }
+
+    /// Frees the Retired nodes that `due` names by their number, owner, time and limbo list, and counts them.
+    fn free_where(&mut self, due: impl Fn(u32, u32, u32, u32) -> bool) -> u32 {
+        let mut freed = 0;
+        for (id, node) in self.domain.nodes.iter_mut().enumerate() {
+            if let Node::Retired { owner, retired_at, limbo, .. } = *node {
+                if due(id as u32, owner, retired_at, limbo) {
+                    *node = Node::Free;
+                    freed += 1;
+                }
+            }
+        }
+        freed
+    }
+
+    fn manage(&mut self, id: u32) -> u32 {
+        let threshold = self.domain.params.quiescence_threshold;
+        let process = self.process(id);
+        process.calls = (process.calls + 1) % threshold;
+        if process.calls != 0 {
+            return 0;
+        }
+        process.present = true;
+        if self.domain.path == Path::Fallback {
+            let all_present = self.domain.processes.iter().all(|process| process.present);
+            if !all_present && !self.rules.have(Mistake::ReturnsWithoutPresence) {
+                return 0;
+            }
+            self.domain.path = Path::Fast;
+        }
+        self.quiescent_state(id)
+    }
+
+    fn quiescent_state(&mut self, id: u32) -> u32 {
+        let global = self.domain.epoch;
+        if self.domain.process(id).epoch != global {
+            self.process(id).epoch = global;
+            let list = (global + self.rules.have(Mistake::FreesTwoEpochsOn) as u32) % 3;
+            return self.free_where(|_, owner, _, limbo| owner == id && limbo == list);
+        }
+        let behind = self.domain.processes.iter().filter(|process| process.epoch != global).count();
+        if behind <= self.rules.have(Mistake::AdvancesWithOneBehind) as usize {
+            self.domain.epoch = (global + 1) % 3;
+        }
+        0
+    }
+
+    fn clear_presence(&mut self) {
+        for process in &mut self.domain.processes {
+            process.present = false;
+        }
+    }
+}
+
+/// The first pending store becomes visible.
+fn drain(process: &mut Process) {
+    let store = process.buffer.pop_front().expect("a pending store");
+    process.hazards[store.hazard as usize].visible = store.node;
+}

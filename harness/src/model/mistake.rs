@@ -1,0 +1,93 @@
+//! Plausible mistakes. The model makes one where it is told to, and the comparison with the library must then find a difference.
+
+macro_rules! mistakes {
+    ($($name:ident)*) => {
+        #[derive(Clone, Copy, Debug, PartialEq, Eq)]
+        pub enum Mistake {
+            $($name,)*
+        }
+
+        impl Mistake {
+            pub const ALL: &'static [Mistake] = &[$(Mistake::$name,)*];
+        }
+    };
+}
+
+mistakes! {
+    // the paper's five
+    FreesAtAgeT
+    NoStoreOnFastPath
+    FreesTwoEpochsOn
+    ScansCurrentLimboOnly
+    KeepsPresenceOverSwitch
+    // in the rules
+    NoVisibleTest
+    TickOneLate
+    NoQuestion17
+    ChecksRemoved
+    SwitchesOverC
+    CountsRetiredOfAll
+    ScansNodesOfAll
+    SwitchesWithoutScan
+    ReturnsWithoutPresence
+    AdvancesWithOneBehind
+    ProtectKeepsValidated
+    RefusedCheckClearsValidated
+    FlushDrainsOnce
+    ScanLooksAtAssigned
+    // in the order of the questions
+    AsksOwnerBeforeState
+    AsksAgeBeforeClock
+    AsksBufferBeforeNode
+    // in the check of words
+    TakesLongerSlices
+    TakesValidatedUnassigned
+    TakesStoresPastLength
+    TakesTimePastClock
+    TakesRetiredAtPastClock
+    TakesRetiredAtOutsideRetired
+    TakesLimboOutsideRetired
+    TakesOwnerOfFree
+    TakesOwnerOfReachable
+    TakesGuestOfFree
+    TakesCallsOfQ
+    TakesStoreToHazardK
+    TakesFourthLimbo
+    RefusesLastNode
+    RefusesTimeOfNow
+}
+
+impl Mistake {
+    /// Those that the reference must object to: a node freed under a process that has validated it, a check or a use that is wrong.
+    pub const UNSAFE: &'static [Mistake] = &[
+        Mistake::FreesAtAgeT,
+        Mistake::NoStoreOnFastPath,
+        Mistake::FreesTwoEpochsOn,
+        Mistake::NoVisibleTest,
+        Mistake::TickOneLate,
+        Mistake::NoQuestion17,
+        Mistake::ChecksRemoved,
+        Mistake::AdvancesWithOneBehind,
+        Mistake::ProtectKeepsValidated,
+    ];
+
+    /// Those by which a process comes to hold more unfreed nodes than the bound allows.
+    pub const UNBOUNDED: &'static [Mistake] =
+        &[Mistake::ScansCurrentLimboOnly, Mistake::SwitchesOverC, Mistake::SwitchesWithoutScan];
+}
+
+/// The rules, with at most one mistake in them.
+#[derive(Clone, Copy, Default)]
+pub struct Rules {
+    mistake: Option<Mistake>,
+}
+
+impl Rules {
+    pub fn with(mistake: Mistake) -> Rules {
+        Rules { mistake: Some(mistake) }
+    }
+
+    pub fn have(self, mistake: Mistake) -> bool {
+        self.mistake == Some(mistake)
+    }
+}

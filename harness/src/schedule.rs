@@ -1,0 +1,149 @@
+//! Random steps: most of them such as the domain would accept, the rest anything.
+
+use crate::model::domain::{Domain, Hazard, Node, Process};
+use crate::model::Model;
+use crate::random::Random;
+use crate::step::{Kind, Step};
+
+/// How a schedule is drawn. Moods differ, so that what is rare in one run is frequent in another.
+pub struct Mood {
+    weights: [u32; 13],
+    accepted_percent: u32,
+    unread_percent: u32,
+}
+
+/// Weights in the order of the kinds by which nodes go round and hazards are claimed.
+const WEIGHTS: [u32; 13] = [8, 8, 8, 12, 4, 4, 6, 8, 3, 2, 6, 8, 1];
+
+impl Mood {
+    pub fn random(random: &mut Random) -> Mood {
+        let mut weights = WEIGHTS.map(|weight| weight * random.of(&[1, 2, 4, 8]));
+        if random.chance(30) {
+            // claims that stay, and stores that stay pending
+            for kind in [Kind::Clear, Kind::Drain, Kind::Flush] {
+                weights[kind as usize - 1] = 1;
+            }
+        }
+        if random.chance(50) {
+            weights[Kind::ClearPresence as usize - 1] = 0;
+        }
+        Mood { weights, accepted_percent: *random.of(&[70, 90, 97]), unread_percent: *random.of(&[0, 30]) }
+    }
+
+    /// A mood in which nearly all steps are accepted, and fields that are not read are 0.
+    pub fn steady() -> Mood {
+        Mood { weights: WEIGHTS, accepted_percent: 100, unread_percent: 0 }
+    }
+
+    /// The next step for the model's domain.
+    pub fn step(&self, random: &mut Random, model: &Model) -> Step {
+        let kind = self.kind(random);
+        let mut step = anything(random, model, kind);
+        if random.chance(self.accepted_percent) {
+            for _ in 0..12 {
+                let kind = self.kind(random);
+                step = likely(random, &model.domain, kind);
+                if model.refusal(step) == 0 {
+                    break;
+                }
+            }
+        }
+        if random.chance(self.unread_percent) {
+            fill_unread(random, &mut step);
+        }
+        step
+    }
+
+    fn kind(&self, random: &mut Random) -> Kind {
+        let mut left = random.below(self.weights.iter().sum());
+        for (kind, &weight) in Kind::ALL.into_iter().zip(&self.weights) {
+            if left < weight {
+                return kind;
+            }
+            left -= weight;
+        }
+        unreachable!("the weights sum up to more")
+    }
+}
+
+/// A step of this kind with fields that the domain is likely to accept.
+fn likely(random: &mut Random, domain: &Domain, kind: Kind) -> Step {
+    let params = domain.params;
+    let mut step = Step::new(kind, random.below(params.processes), 0, 0, 0);
+    match kind {
+        Kind::Allocate => {
+            step.node = node_where(random, domain, |node| *node == Node::Free);
+            step.guest = if random.chance(10) { random.word() } else { random.below(100) };
+        }
+        Kind::Publish => step.node = node_where(random, domain, |node| matches!(node, Node::Allocated { .. })),
+        Kind::Remove => step.node = node_where(random, domain, |node| matches!(node, Node::Reachable { .. })),
+        Kind::Retire => step.node = node_where(random, domain, |node| matches!(node, Node::Removed { .. })),
+        Kind::Protect => {
+            step.hazard = random.below(params.hazards);
+            step.node = match random.chance(85) {
+                true => node_where(random, domain, |node| matches!(node, Node::Reachable { .. })),
+                false => random.below(params.nodes),
+            };
+        }
+        Kind::Check | Kind::Clear => at_hazard(random, domain, &mut step, |hazard| hazard.assigned.is_some()),
+        Kind::Use => at_hazard(random, domain, &mut step, |hazard| hazard.validated),
+        Kind::Drain => step.process = process_where(random, domain, |process| !process.buffer.is_empty()),
+        Kind::Manage => step.process = process_where(random, domain, |process| !process.has_assigned()),
+        Kind::Flush | Kind::Tick | Kind::ClearPresence => {}
+    }
+    if matches!(kind, Kind::Publish | Kind::Retire) && random.chance(97) {
+        step.process = domain.node(step.node).owner().unwrap_or(step.process);
+    }
+    step
+}
+
+/// A random place from which on, round to it again, the first that fits is taken; if none fits, the place itself.
+fn place_where(random: &mut Random, count: u32, fits: impl Fn(u32) -> bool) -> u32 {
+    let start = random.below(count);
+    (start..count).chain(0..start).find(|&id| fits(id)).unwrap_or(start)
+}
+
+fn node_where(random: &mut Random, domain: &Domain, fits: impl Fn(&Node) -> bool) -> u32 {
+    place_where(random, domain.params.nodes, |id| fits(domain.node(id)))
+}
+
+fn process_where(random: &mut Random, domain: &Domain, fits: impl Fn(&Process) -> bool) -> u32 {
+    place_where(random, domain.params.processes, |id| fits(domain.process(id)))
+}
+
+fn at_hazard(random: &mut Random, domain: &Domain, step: &mut Step, fits: impl Fn(&Hazard) -> bool) {
+    step.process = process_where(random, domain, |process| process.hazards.iter().any(&fits));
+    step.hazard = place_where(random, domain.params.hazards, |id| fits(domain.hazard(step.process, id)));
+}
+
+/// Fields in and out of range, and now and then a kind that is none.
+fn anything(random: &mut Random, model: &Model, kind: Kind) -> Step {
+    let params = model.domain.params;
+    let mut field = |limit: u32| match random.below(16) {
+        0 => limit,
+        1 => u32::MAX,
+        _ => random.below(limit),
+    };
+    let (process, hazard, node) = (field(params.processes), field(params.hazards), field(params.nodes));
+    let mut step = Step::new(kind, process, hazard, node, random.word());
+    if random.chance(8) {
+        step.kind = *random.of(&[0, 14, 19, 255, 256 + kind as u32, u32::MAX]);
+    }
+    step
+}
+
+/// Puts anything into the fields that the step's kind does not read.
+fn fill_unread(random: &mut Random, step: &mut Step) {
+    let kind = Kind::from_number(step.kind);
+    let reads = |test: fn(Kind) -> bool| kind.is_some_and(test);
+    for (field, read) in [
+        (&mut step.process, reads(Kind::reads_process)),
+        (&mut step.hazard, reads(Kind::reads_hazard)),
+        (&mut step.node, reads(Kind::reads_node)),
+        (&mut step.guest, reads(Kind::reads_guest)),
+    ] {
+        if !read {
+            *field = random.word();
+        }
+    }
+}

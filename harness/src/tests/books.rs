@@ -1,0 +1,240 @@
+//! Books through the built `desk`: what it prints is what the model prints.
+
+use super::examples;
+use crate::book::{print, trailer, write, GREATEST, MOST_STEPS};
+use crate::model::mistake::Rules;
+use crate::model::Model;
+use crate::params::Params;
+use crate::random::Random;
+use crate::report::Report;
+use crate::schedule::Mood;
+use crate::step::Step;
+use std::fs::File;
+use std::io::Write;
+use std::path::Path;
+use std::process::{Command, Output, Stdio};
+use std::time::Duration;
+
+type Outcome = Result<String, String>;
+
+pub fn all(report: &mut Report, desk: &Path, folder: &Path, seed: u64) {
+    let mut test =
+        |name: &str, test: &dyn Fn(&Path, u64) -> Outcome| report.test(&format!("desk: {name}"), || test(desk, seed));
+    test("random books", &random_books);
+    test("any kind, process and hazard byte, any unread byte", &any_bytes);
+    test("no steps", &|desk, _| same(desk, &write(Params::from_numbers([2, 1, 2, 3, 1, 1]), &[], 0)));
+    test("books cut at every byte", &cut);
+    test("padded in front", &padded);
+    test("a wrong mark", &wrong_mark);
+    test("a wrong distance or count", &wrong_numbers);
+    test("a count near 2^32", &great_counts);
+    test("parameters out of range", &wrong_params);
+    test("65,536 and 65,537 bytes", &longest);
+    test("in small chunks", &chunks);
+    test("unreadable input", &unreadable);
+    for name in examples::NAMES {
+        test(&format!("examples/{name}.book"), &|desk, _| same(desk, &examples::read(folder, name)?.0));
+    }
+}
+
+/// Runs `desk`, giving its input in pieces of at most `chunk` bytes.
+fn run(desk: &Path, input: &[u8], chunk: usize) -> Result<Output, String> {
+    let mut command = Command::new(desk);
+    let command = command.stdin(Stdio::piped()).stdout(Stdio::piped()).stderr(Stdio::piped());
+    let mut child = command.spawn().map_err(|error| format!("{}: {error}", desk.display()))?;
+    let mut pipe = child.stdin.take().expect("a pipe");
+    let input = input.to_vec();
+    let writer = std::thread::spawn(move || {
+        for (number, piece) in input.chunks(chunk).enumerate() {
+            if number > 0 {
+                std::thread::sleep(Duration::from_micros(50)); // so that the program may read what there is
+            }
+            if pipe.write_all(piece).is_err() {
+                break; // a program that has read enough may leave
+            }
+        }
+    });
+    let output = child.wait_with_output().map_err(|error| error.to_string());
+    writer.join().map_err(|_| "the writer panicked")?;
+    output
+}
+
+fn same_in(desk: &Path, input: &[u8], chunk: usize) -> Outcome {
+    let output = run(desk, input, chunk)?;
+    let (found, expected) = (String::from_utf8_lossy(&output.stdout), print(input));
+    if found != expected {
+        let line = found.lines().zip(expected.lines()).take_while(|(x, y)| x == y).count();
+        let of = |text: &str| text.lines().nth(line).unwrap_or("nothing").to_string();
+        return Err(format!("{} bytes, line {line}: {}, expected {}", input.len(), of(&found), of(&expected)));
+    }
+    match output.stderr.is_empty() {
+        true => Ok(expected.lines().next().unwrap_or_default().to_string()),
+        false => Err(format!("standard error: {}", String::from_utf8_lossy(&output.stderr))),
+    }
+}
+
+fn same(desk: &Path, input: &[u8]) -> Outcome {
+    same_in(desk, input, input.len().max(1))
+}
+
+/// Each of the books prints as the model does, or is refused with this number.
+fn each(desk: &Path, books: impl IntoIterator<Item = Vec<u8>>, refusal: Option<u32>) -> Outcome {
+    let mut count = 0;
+    for book in books {
+        let first = same(desk, &book)?;
+        if let Some(number) = refusal {
+            if first != format!("refused {number}") {
+                return Err(format!("{first}, expected refused {number}"));
+            }
+        }
+        count += 1;
+    }
+    Ok(format!("{count} books"))
+}
+
+/// Steps that are mostly accepted, with fields that fit a book.
+fn schedule(random: &mut Random, params: Params, length: usize) -> Vec<Step> {
+    let (mut model, mood) = (Model::fresh(params, Rules::default()), Mood::random(random));
+    let steps = (0..length).map(|_| {
+        let mut step = mood.step(random, &model);
+        for field in [&mut step.kind, &mut step.process, &mut step.hazard] {
+            *field &= 255;
+        }
+        model.step(step);
+        step
+    });
+    steps.collect()
+}
+
+fn random_book(seed: u64, index: u64) -> Vec<u8> {
+    let mut random = Random::new(seed ^ 0xb00c, index);
+    let params = Params::random(&mut random);
+    let length = *random.of(&[1, 13, 100, 700]);
+    book_of(&mut random, params, length)
+}
+
+fn book_of(random: &mut Random, params: Params, length: usize) -> Vec<u8> {
+    let steps = schedule(random, params, length);
+    write(params, &steps, random.word() as u8)
+}
+
+fn random_books(desk: &Path, seed: u64) -> Outcome {
+    each(desk, (0..150).map(|index| random_book(seed, index)), None)
+}
+
+fn any_bytes(desk: &Path, seed: u64) -> Outcome {
+    let books = (0..30).map(|index| {
+        let mut random = Random::new(seed ^ 0xa11b, index);
+        let params = Params::random(&mut random);
+        let mut book = write(params, &schedule(&mut random, params, 300), 0);
+        let end = book.len() - 12;
+        for _ in 0..200 {
+            let place = 24 + random.below((end - 24) as u32) as usize;
+            book[place] = random.word() as u8;
+        }
+        book
+    });
+    each(desk, books, None)
+}
+
+fn cut(desk: &Path, seed: u64) -> Outcome {
+    let steps = schedule(&mut Random::new(seed, 1), Params::from_numbers([2, 1, 2, 3, 1, 1]), 13);
+    let book = write(Params::from_numbers([2, 1, 2, 3, 1, 1]), &steps, 0);
+    let tails = (1..book.len()).map(|end| book[..end].to_vec());
+    let heads = (1..book.len()).map(|start| book[start..].to_vec());
+    each(desk, [vec![]].into_iter().chain(tails).chain(heads), Some(19))
+}
+
+fn padded(desk: &Path, seed: u64) -> Outcome {
+    let books = (0..40).map(|index| {
+        let mut random = Random::new(seed ^ 0x9ad, index);
+        let padding = *random.of(&[1, 3, 12, 500, 20_000]);
+        let mut bytes: Vec<u8> = (0..padding).map(|_| random.word() as u8).collect();
+        bytes.extend(random_book(seed, index));
+        bytes
+    });
+    each(desk, books, None)
+}
+
+fn wrong_mark(desk: &Path, seed: u64) -> Outcome {
+    let books = (0..32).map(|bit| {
+        let mut book = random_book(seed, bit);
+        let place = book.len() - 4 + bit as usize / 8;
+        book[place] ^= 1 << (bit % 8);
+        book
+    });
+    each(desk, books, Some(19))
+}
+
+fn with_trailer(book: &[u8], count: u32, distance: u32) -> Vec<u8> {
+    [&book[..book.len() - 12], &trailer(count, distance)].concat()
+}
+
+fn wrong_numbers(desk: &Path, seed: u64) -> Outcome {
+    let book =
+        write(Params::from_numbers([1; 6]), &schedule(&mut Random::new(seed, 2), Params::from_numbers([1; 6]), 10), 0);
+    let count = 10;
+    let distances = [0, 12, 24, 35, 37, 36 + 120 - 12, 36 + 120 - 1, 36 + 120 + 1, 36 + 120 + 12, 1 << 31, u32::MAX];
+    let wrong = distances.map(|distance| with_trailer(&book, count, distance));
+    let counts = [0, 1, 9, 11, 1 << 31, u32::MAX].map(|count| with_trailer(&book, count, 156));
+    let beyond = [11, 5000].map(|count| with_trailer(&book, count, 36 + 12 * count));
+    each(desk, wrong.into_iter().chain(counts).chain(beyond), Some(19))
+}
+
+/// Counts whose distance passes 32 bits: wrapped or not, none is right.
+fn great_counts(desk: &Path, seed: u64) -> Outcome {
+    let book = random_book(seed, 3);
+    let counts = [u32::MAX, u32::MAX - 1, u32::MAX - 2, u32::MAX / 12, u32::MAX / 12 + 1, 1 << 30, (1 << 30) + 1];
+    let pairs = counts.into_iter().flat_map(|count| {
+        let wrapped = count.wrapping_mul(12).wrapping_add(36);
+        [wrapped, wrapped.min(book.len() as u32), u32::MAX, 36].map(|distance| (count, distance))
+    });
+    let books: Vec<_> = pairs.map(|(count, distance)| with_trailer(&book, count, distance)).collect();
+    each(desk, books, Some(19))
+}
+
+fn wrong_params(desk: &Path, seed: u64) -> Outcome {
+    let limits = crate::params::LIMITS;
+    let books = (0..6).flat_map(|place| [0, limits[place] + 1, 1 << 31, u32::MAX].map(|value| (place, value))).map(
+        |(place, value)| {
+            let mut numbers = [1; 6];
+            numbers[place] = value;
+            write(
+                Params::from_numbers(numbers),
+                &schedule(&mut Random::new(seed, 4), Params::from_numbers([1; 6]), 5),
+                0,
+            )
+        },
+    );
+    each(desk, books, Some(1))
+}
+
+fn longest(desk: &Path, seed: u64) -> Outcome {
+    let params = Params::from_numbers([4, 2, 32, 3, 2, 4]);
+    let book = write(params, &schedule(&mut Random::new(seed, 5), params, MOST_STEPS), 0);
+    let padded = |length: usize| [vec![7; length - book.len()], book.clone()].concat();
+    each(desk, [book.clone(), padded(GREATEST)], None)?;
+    each(desk, [padded(GREATEST + 1), padded(GREATEST + 2), vec![0; GREATEST + 1], vec![0; 300_000]], Some(18))?;
+    Ok(format!("{MOST_STEPS} steps; {GREATEST} bytes taken, longer ones refused with 18"))
+}
+
+fn chunks(desk: &Path, seed: u64) -> Outcome {
+    let params = Params::from_numbers([4, 2, 32, 3, 2, 4]);
+    let sizes = [1, 2, 7, 11, 12, 13, 100, 4096];
+    for chunk in sizes {
+        let length = if chunk < 10 { 40 } else { 700 };
+        same_in(desk, &book_of(&mut Random::new(seed, 6), params, length), chunk)?;
+    }
+    Ok(format!("{} sizes", sizes.len()))
+}
+
+/// A directory as standard input cannot be read: a line on standard error, nothing on standard output.
+fn unreadable(desk: &Path, _: u64) -> Outcome {
+    let directory = File::open("/").map_err(|error| error.to_string())?;
+    let output = Command::new(desk).stdin(directory).output().map_err(|error| error.to_string())?;
+    let said = String::from_utf8_lossy(&output.stderr);
+    match (output.stdout.is_empty(), said.lines().count(), said.ends_with('\n')) {
+        (true, 1, true) => Ok(said.trim_end().to_string()),
+        _ => Err(format!("standard output {:?}, standard error {said:?}", String::from_utf8_lossy(&output.stdout))),
+    }
+}

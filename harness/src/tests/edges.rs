@@ -1,0 +1,157 @@
+//! The cases of 'On the edge', with answers and words written by hand from the paper, on the library and on the model.
+
+use crate::library::Calls;
+use crate::model::mistake::Rules;
+use crate::model::step_words;
+use crate::params::Params;
+use crate::report::Report;
+use crate::step::{Answer, Kind, Step};
+
+struct Case {
+    name: &'static str,
+    words: Vec<u32>,
+    steps: Vec<Step>,
+    /// the answers that are not (0, 0): number of the step, refusal, value
+    answers: Vec<(usize, u32, u32)>,
+    /// words afterwards: index, value
+    after: Vec<(usize, u32)>,
+}
+
+const CLOCK: usize = 6;
+const PATH: usize = 7;
+const EPOCH: usize = 8;
+// of process 0 where K = 1
+const CALLS: usize = 10;
+const PRESENCE: usize = 11;
+const PENDING: usize = 12;
+const VALIDATED: usize = 15;
+const STORE: usize = 16;
+// of nodes where N = K = 1: its state
+const NODE: [usize; 2] = [40, 45];
+
+pub fn all(report: &mut Report, calls: &Calls) {
+    report.test("edge: length at 1, 1, 1 and at 16, 8, 256", || {
+        match (calls.length(1, 1, 1), calls.length(16, 8, 256)) {
+            (45, 2121) => Ok("45 and 2121".into()),
+            other => Err(format!("{other:?}")),
+        }
+    });
+    for case in cases() {
+        report.test(&format!("edge: {}", case.name), || check(calls, &case));
+    }
+}
+
+fn check(calls: &Calls, case: &Case) -> Result<String, String> {
+    let mut words = case.words.clone();
+    holds("library", case, &mut words, |words, step| calls.step(words, step))?;
+    let mut words = case.words.clone();
+    holds("model", case, &mut words, |words, step| step_words(words, step, Rules::default()))?;
+    Ok(format!("{} steps", case.steps.len()))
+}
+
+fn holds(
+    who: &str,
+    case: &Case,
+    words: &mut Vec<u32>,
+    mut take: impl FnMut(&mut Vec<u32>, Step) -> Answer,
+) -> Result<(), String> {
+    for (number, &step) in case.steps.iter().enumerate() {
+        let special = case.answers.iter().find(|answer| answer.0 == number);
+        let expected = special.map_or(Answer::accepted(0), |&(_, refusal, value)| Answer { refusal, value });
+        let answer = take(words, step);
+        if answer != expected {
+            return Err(format!("{who}, step {number}: {answer}, expected {expected}"));
+        }
+    }
+    match case.after.iter().find(|&&(index, value)| words[index] != value) {
+        Some(&(index, value)) => Err(format!("{who}: word {index} is {}, expected {value}", words[index])),
+        None => Ok(()),
+    }
+}
+
+fn fresh(numbers: [u32; 6]) -> Vec<u32> {
+    let mut words = numbers.to_vec();
+    words.resize(Params::from_numbers(numbers).word_count(), 0);
+    words
+}
+
+fn of(kind: Kind) -> Step {
+    Step::new(kind, 0, 0, 0, 0)
+}
+
+/// A node from Free to Retired by process 0.
+fn turnover(node: u32, guest: u32) -> Vec<Step> {
+    [Kind::Allocate, Kind::Publish, Kind::Remove, Kind::Retire].map(|kind| Step::new(kind, 0, 0, node, guest)).to_vec()
+}
+
+/// Node 0 retired at clock 0, then ticks, then a second retire, which scans, since C = 1.
+fn scan_after(ticks: usize) -> Vec<Step> {
+    [turnover(0, 70), vec![of(Kind::Tick); ticks], turnover(1, 60)].concat()
+}
+
+fn cases() -> Vec<Case> {
+    [scans(), thresholds(), claims(), vec![stopped()]].into_iter().flatten().collect()
+}
+
+/// A case from a fresh domain.
+fn case(
+    name: &'static str,
+    numbers: [u32; 6],
+    steps: Vec<Step>,
+    answers: &[(usize, u32, u32)],
+    after: &[(usize, u32)],
+) -> Case {
+    Case { name, words: fresh(numbers), steps, answers: answers.to_vec(), after: after.to_vec() }
+}
+
+fn scans() -> Vec<Case> {
+    let numbers = [1, 1, 2, 3, 1, 1];
+    let (kept, freed) = ([(NODE[0], 4), (NODE[1], 4)], [(NODE[0], 0), (NODE[1], 4)]);
+    let visible = [Kind::Allocate, Kind::Publish, Kind::Protect, Kind::Drain, Kind::Remove, Kind::Retire].map(of);
+    let visible = [visible.to_vec(), vec![of(Kind::Tick); 4], turnover(1, 60)].concat();
+    vec![
+        case("T = 3, a scan at clock 3 keeps the node", numbers, scan_after(3), &[], &kept),
+        case("at clock 4 it frees it", numbers, scan_after(4), &[(11, 0, 1)], &freed),
+        case("and keeps it if visible", numbers, visible, &[], &kept),
+    ]
+}
+
+fn thresholds() -> Vec<Case> {
+    let full = [vec![of(Kind::Protect); 8], vec![of(Kind::Protect), of(Kind::Clear)]].concat();
+    let (one, two) = (turnover(0, 70), [turnover(0, 70), turnover(1, 60)].concat());
+    let manages = |count| vec![of(Kind::Manage); count];
+    let (counted, acted) = ([(CALLS, 2), (PRESENCE, 0), (EPOCH, 0)], [(CALLS, 0), (PRESENCE, 1), (EPOCH, 1)]);
+    let sixth = [turnover(0, 70), manages(6)].concat();
+    vec![
+        case("the eighth store is taken, the ninth gets 13", [1; 6], full, &[(8, 13, 0), (9, 13, 0)], &[(PENDING, 8)]),
+        case("C = 2, the first retire stays fast", [1, 1, 2, 3, 1, 2], one, &[], &[(PATH, 0)]),
+        case("the second switches", [1, 1, 2, 3, 1, 2], two, &[], &[(PATH, 1)]),
+        case("Q = 3, two manages count", [1, 1, 1, 1, 3, 1], manages(2), &[], &counted),
+        case("the third acts", [1, 1, 1, 1, 3, 1], manages(3), &[], &acted),
+        case("the sixth manage frees", [1, 1, 1, 1, 1, 2], sixth, &[(9, 0, 1)], &[(NODE[0], 0)]),
+    ]
+}
+
+fn claims() -> Vec<Case> {
+    let published = vec![Step::new(Kind::Allocate, 0, 0, 0, 70), of(Kind::Publish), of(Kind::Protect)];
+    let unchecked = [published.clone(), vec![of(Kind::Use)]].concat();
+    let removed = [published, [Kind::Check, Kind::Remove, Kind::Check, Kind::Use].map(of).to_vec()].concat();
+    let answers = [(5, 11, 0), (6, 0, 70)];
+    vec![
+        case("use after protect without check gets 12", [1; 6], unchecked, &[(3, 12, 0)], &[(VALIDATED, 0)]),
+        case("a check refused with 11 keeps an old claim", [1; 6], removed, &answers, &[(VALIDATED, 1)]),
+    ]
+}
+
+/// The last clock, and a pending store to hazard 0 that is 3 = T ticks old.
+fn stopped() -> Case {
+    let mut words = fresh([1, 1, 1, 3, 1, 1]);
+    (words[CLOCK], words[PENDING], words[STORE + 1], words[STORE + 2]) = (u32::MAX, 1, 1, u32::MAX - 3);
+    Case {
+        name: "the last clock with a due store gets 15",
+        words,
+        steps: vec![of(Kind::Tick)],
+        answers: vec![(0, 15, 0)],
+        after: vec![(CLOCK, u32::MAX), (PENDING, 1)],
+    }
+}

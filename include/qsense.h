@@ -1,0 +1,84 @@
+/* Furtaqyl for C and C++: memory reclamation by QSense on words that the caller lends.
+ *
+ * A domain has n processes (1 to 16), k hazards a process (1 to 8) and m nodes (1 to 256), each counted from 0, and lives in
+ * qsense_length(n, k, m) words of the caller's. All that the library knows is in these words; it keeps no memory of its own. Every call
+ * takes any words, any lengths and any numbers: what does not fit is refused, and a refused call changes no word.
+ *
+ * A pointer with a length above 0 must be to that many words, aligned and alive during the call, and written by nobody else
+ * meanwhile; slices lent to one call may not overlap. */
+#ifndef QSENSE_H
+#define QSENSE_H
+
+#include <stdbool.h>
+#include <stddef.h>
+#include <stdint.h>
+
+#ifdef __cplusplus
+extern "C" {
+#endif
+
+/* What a call answers: refusal is 0 where it was accepted and else says why not, value is 0 unless said. */
+typedef struct {
+    uint32_t refusal;
+    uint32_t value;
+} qsense_answer;
+
+/* How many words a domain takes: 9 + n * (28 + 3 * k) + 5 * m, from 45 to 2121. 0 unless n, k and m are each in range.
+ * It reads and changes no words and is never refused. */
+uint32_t qsense_length(uint32_t n, uint32_t k, uint32_t m);
+
+/* Makes a fresh domain in words, whatever they held: its six parameters first, 0 in every other word. t is the visibility bound in
+ * ticks (1 to 1000), q the quiescence threshold in calls of manage (1 to 1000), c the fallback threshold in nodes (1 to 256).
+ * The value is 0. Refused, with no word changed:
+ *   1  a parameter is out of range
+ *   2  len is not qsense_length(n, k, m) */
+qsense_answer qsense_make(uint32_t *words, size_t len, uint32_t n, uint32_t k, uint32_t m, uint32_t t, uint32_t q, uint32_t c);
+
+/* Takes one step. Only the fields named with a kind are read.
+ *    1  allocate (process, node, guest)    Free to Allocated, with this owner and guest
+ *    2  publish (process, node)            Allocated to Reachable, without an owner
+ *    3  protect (process, hazard, node)    assigns the node to the hazard, not validated; the store is pending
+ *    4  check (process, hazard)            validates the hazard
+ *    5  use (process, hazard)              value: the guest of the assigned node
+ *    6  clear (process, hazard)            assigns no node to the hazard, in the same way as protect
+ *    7  remove (process, node)             Reachable to Removed, with this owner
+ *    8  retire (process, node)             Removed to Retired, then a scan or a switch to the fallback path; value: nodes freed
+ *    9  drain (process)                    commits the oldest pending store
+ *   10  flush (process)                    commits all pending stores
+ *   11  tick                               the clock moves on
+ *   12  manage (process)                   every q-th call is a quiescent state; value: nodes freed
+ *   13  clear presence                     no process counts as present
+ * The value is 0 where none is named. Refused at the first no, in this order, with value 0 and no word changed:
+ *    3  the words are a well-formed domain
+ *    4  the kind is 1 to 13
+ *    5  the process is below n (all but 11 and 13)
+ *    6  the hazard is below k (3 to 6)
+ *    7  the node is below m (1, 2, 3, 7, 8)
+ *    8  the node is Free (1), Allocated (2), Reachable (7), Removed (8)
+ *    9  the process owns it (2, 8)
+ *   10  the hazard has a node assigned (4)
+ *   11  that node is Reachable (4)
+ *   12  the hazard is validated (5)
+ *   13  the process has fewer than 8 pending stores (3, 6)
+ *   14  it has one (9)
+ *   15  the clock is below 4294967295 (11)
+ *   16  every pending store of every process is younger than t ticks (11)
+ *   17  no hazard of the process has a node assigned (12) */
+qsense_answer qsense_step(uint32_t *words, size_t len, uint32_t kind, uint32_t process, uint32_t hazard, uint32_t node,
+                          uint32_t guest);
+
+/* Counts the Reachable nodes: the value. It changes no word. Refused:
+ *   3  the words are not a well-formed domain */
+qsense_answer qsense_reachable(const uint32_t *words, size_t len);
+
+/* Takes a list of steps, five words each in the order of qsense_step, and writes an answer for each, two words each: refusal, value.
+ * Answers and words are those of qsense_step called for one after another, with its numbers 3 to 17; the words are checked once.
+ * It returns true, also for an empty list. Where steps_len is not 5 * j with answers_len = 2 * j for some j, it returns false and
+ * writes nothing, neither words nor answers. */
+bool qsense_run(uint32_t *words, size_t len, const uint32_t *steps, size_t steps_len, uint32_t *answers, size_t answers_len);
+
+#ifdef __cplusplus
+}
+#endif
+
+#endif
