@@ -9,7 +9,6 @@
 #ifndef QSENSE_H
 #define QSENSE_H
 
-#include <stdbool.h>
 #include <stddef.h>
 #include <stdint.h>
 
