@@ -20,12 +20,11 @@ use Rattle.wellformed.proofs.Tests.{below, only-zero}
 use Rattle.wellformed.proofs.Tables.{slid, slid-past}
 
 -- what the four looks at a process leave
-pub process-none : (ws lead hazards stores : List ℕ) (k a : ℕ) (v w x y z b : Bool) → w ≡ (v && within ws a lead 0 4)
-    → x ≡ (w && within ws (a + 4) hazards (24 - 3 * k) 24)
-    → y ≡ (x && within ws (a + 4 + 3 * k) stores (24 - 3 * (word ws (a + 3) % 9)) 24) → b ≡ backedAt ws (a + 4) k
-    → z ≡ (y && not (not b)) → z ≡ (v && processWithin lead hazards stores k ws a)
+pub process-none : (ws lead hazards stores : List ℕ) (k a : ℕ) (b v w x y z : Bool) → b ≡ backedAt ws (a + 4) k → w ≡ (v && not (not b))
+    → x ≡ (w && within ws a lead 0 4) → y ≡ (x && within ws (a + 4) hazards (24 - 3 * k) 24)
+    → z ≡ (y && within ws (a + 4 + 3 * k) stores (24 - 3 * (word ws (a + 3) % 9)) 24) → z ≡ (v && processWithin lead hazards stores k ws a)
 unfolding processWithin
-process-none ws lead hazards stores k a v w x y z b hw hx hy hb hz = rw (hz, hy, hx, hw, hb) (simp (Bool·not-not, and-assoc))
+process-none ws lead hazards stores k a b v w x y z hb hw hx hy hz = rw (hz, hy, hx, hw, hb) (simp (Bool·not-not, and-assoc))
 
 -- validated at most 1 and at most assigned: 1 only where one is assigned
 backed-fits : (d s : ℕ) → (leb d 1 && leb d s) ≡ (leb d 1 && implies (eqb d 1) (not (eqb s 0)))
@@ -136,7 +135,15 @@ module _ (ws : List ℕ) (words : (j : ℕ) → word ws j ≤ anyWord) (k m q cl
 
   pub process-fits : processWithin (leadLimits (q - 1)) (sliding m m 1 anyWord) (sliding (k - 1) m clock 0) k ws a ≡ processFits k m q clock ws a
   unfolding processWithin processFits
-  process-fits = rw (lead-fits, add-assoc a 4 (3 * k), ← rest-fits (leb (word ws (a + 3)) 8) refl) (simp and-assoc)
+  process-fits =
+      let late : Bool = within ws (a + 4) (sliding m m 1 anyWord) (24 - 3 * k) 24
+      && within ws (a + 4 + 3 * k) (sliding (k - 1) m clock 0) (24 - 3 * (word ws (a + 3) % 9)) 24 in
+      rw
+      (and-comm (backedAt ws (a + 4) k) (within ws a (leadLimits (q - 1)) 0 4 && late),
+      lead-fits,
+      add-assoc a 4 (3 * k),
+      ← rest-fits (leb (word ws (a + 3)) 8) refl)
+      (simp and-assoc)
 
 -- a turn of the loop over the processes, and its end
 abbrev pub fits : List ℕ → ℕ → Bool

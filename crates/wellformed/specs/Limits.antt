@@ -51,10 +51,10 @@ backedAt ws a k = allUpto (λ h. leb (word ws (a + 3 * h + 2)) (word ws (a + 3 *
 -- a process at place a, with k hazards
 unfoldable pub processWithin : List ℕ → List ℕ → List ℕ → ℕ → List ℕ → ℕ → Bool
 processWithin lead hazards stores k ws a =
-    within ws a lead 0 4
+    backedAt ws (a + 4) k
+    && (within ws a lead 0 4
     && (within ws (a + 4) hazards (24 - 3 * k) 24
-    && (within ws (a + 4 + 3 * k) stores (24 - 3 * (word ws (a + 3) % 9)) 24
-    && backedAt ws (a + 4) k))
+    && within ws (a + 4 + 3 * k) stores (24 - 3 * (word ws (a + 3) % 9)) 24))
 
 -- the numbers that the check of processes and nodes goes by
 pub record Ready (ws : List ℕ) : Type 0 where

@@ -152,11 +152,10 @@ fn process(faults: Faults, words: &[u32], at: usize, k: usize, lead: &[u32], haz
     requires { ⌜ (length (now lead) ≡ 4) × (length (now hazards) ≡ 48) × (length (now stores) ≡ 48) ⌝ }
     ensures { λ r. ⌜ none r ≡ (none faults && processWithin (now (lead .entry)) (now (hazards .entry)) (now (stores .entry)) k (now (words .entry)) at) ⌝ }
 {
-    let pending = (words[at + 3] % 9) as usize;
-    let one = pieces(faults, words, at, lead, 0, 1);
-    let two = pieces(one, words, at + 4, hazards, 24 - 3 * k, 6);
-    let three = pieces(two, words, at + 4 + 3 * k, stores, 24 - 3 * pending, 6);
-    noted(three, !backed(words, at + 4, k))
+    let one = noted(faults, !backed(words, at + 4, k));
+    let two = pieces(one, words, at, lead, 0, 1);
+    let three = pieces(two, words, at + 4, hazards, 24 - 3 * k, 6);
+    pieces(three, words, at + 4 + 3 * k, stores, 24 - 3 * (words[at + 3] % 9) as usize, 6)
 }
 
 // Whether every process fits.
