@@ -44,17 +44,18 @@ lanes : (a b c d e w x y z : Bool)
     → (not (a || not w) && (not (b || not x) && (not (c || not y) && (not (d || not z) && not e))))
     ≡ ((not a && (not b && (not c && (not d && not e)))) && (((w && x) && y) && z))
 lanes a b c d e w x y z =
-    rw
-    (lane a w,
-    lane b x,
-    lane c y,
-    lane d z,
-    last (not d) z (not e),
-    and-swap (not c) y (not d && not e) z,
-    and-swap (not b) x (not c && (not d && not e)) (y && z),
-    and-swap (not a) w (not b && (not c && (not d && not e))) (x && (y && z)),
-    and-assoc (w && x) y z,
-    and-assoc w x (y && z))
+    rw (
+      lane a w,
+      lane b x,
+      lane c y,
+      lane d z,
+      last (not d) z (not e),
+      and-swap (not c) y (not d && not e) z,
+      and-swap (not b) x (not c && (not d && not e)) (y && z),
+      and-swap (not a) w (not b && (not c && (not d && not e))) (x && (y && z)),
+      and-assoc (w && x) y z,
+      and-assoc w x (y && z),
+    )
 
 pub piece-none : (f : Faults) (ws ls : List ℕ) (a b : ℕ)
     → none
@@ -68,13 +69,14 @@ pub piece-none : (f : Faults) (ws ls : List ℕ) (a b : ℕ)
     ≡ (none f && within ws a ls b 4)
 unfolding none within allUpto
 piece-none f ws ls a b =
-    rw
-    (add-zero a,
-    add-zero b,
-    over (word ws a) (word ls b),
-    over (word ws (a + 1)) (word ls (b + 1)),
-    over (word ws (a + 2)) (word ls (b + 2)),
-    over (word ws (a + 3)) (word ls (b + 3)))
+    rw (
+      add-zero a,
+      add-zero b,
+      over (word ws a) (word ls b),
+      over (word ws (a + 1)) (word ls (b + 1)),
+      over (word ws (a + 2)) (word ls (b + 2)),
+      over (word ws (a + 3)) (word ls (b + 3)),
+    )
     (lanes
     (f .first)
     (f .second)

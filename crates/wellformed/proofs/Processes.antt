@@ -44,12 +44,13 @@ module _ (ws : List ℕ) (words : (j : ℕ) → word ws j ≤ anyWord) (k m : �
       ≡ hazardFits m ws (a + 3 * h)
   unfolding hazardFits
   hazard-fits a h l =
-      rw
-      (slid m m 1 anyWord k few (3 * h) h 0 (omega arith) l (omega arith),
-      slid m m 1 anyWord k few (3 * h + 1) h 1 (omega arith) l (omega arith),
-      slid m m 1 anyWord k few (3 * h + 2) h 2 (omega arith) l (omega arith),
-      ← add-assoc a (3 * h) 1,
-      ← add-assoc a (3 * h) 2)
+      rw (
+        slid m m 1 anyWord k few (3 * h) h 0 (omega arith) l (omega arith),
+        slid m m 1 anyWord k few (3 * h + 1) h 1 (omega arith) l (omega arith),
+        slid m m 1 anyWord k few (3 * h + 2) h 2 (omega arith) l (omega arith),
+        ← add-assoc a (3 * h) 1,
+        ← add-assoc a (3 * h) 2,
+      )
       (simp and-assoc (rw (backed-fits (word ws (a + 3 * h + 2)) (word ws (a + 3 * h + 1)))))
 
   hazards-fit : (a : ℕ) → (within ws a (sliding m m 1 anyWord) (24 - 3 * k) 24 && backedAt ws a k)
@@ -80,21 +81,23 @@ module _ (ws : List ℕ) (s k m clock : ℕ) (some' : 1 ≤ k) (few : s ≤ 8) w
           (eqb (word ws (a + 3 * e)) 0 && (eqb (word ws (a + 3 * e + 1)) 0 && eqb (word ws (a + 3 * e + 2)) 0))
       go true h =
           let i : e < s = ltb-true e s h in
-          rw
-          (slid (k - 1) m clock 0 s few (3 * e) e 0 (omega arith) i (omega arith),
-          slid (k - 1) m clock 0 s few (3 * e + 1) e 1 (omega arith) i (omega arith),
-          slid (k - 1) m clock 0 s few (3 * e + 2) e 2 (omega arith) i (omega arith),
-          ← add-assoc a (3 * e) 1,
-          ← add-assoc a (3 * e) 2,
-          below (word ws (a + 3 * e)) k some')
+          rw (
+            slid (k - 1) m clock 0 s few (3 * e) e 0 (omega arith) i (omega arith),
+            slid (k - 1) m clock 0 s few (3 * e + 1) e 1 (omega arith) i (omega arith),
+            slid (k - 1) m clock 0 s few (3 * e + 2) e 2 (omega arith) i (omega arith),
+            ← add-assoc a (3 * e) 1,
+            ← add-assoc a (3 * e) 2,
+            below (word ws (a + 3 * e)) k some',
+          )
       go false h =
           let i : s ≤ e = ltb-false e s h in
-          rw
-          (slid-past (k - 1) m clock 0 s few (3 * e) (omega arith) (omega arith),
-          slid-past (k - 1) m clock 0 s few (3 * e + 1) (omega arith) (omega arith),
-          slid-past (k - 1) m clock 0 s few (3 * e + 2) (omega arith) (omega arith),
-          ← add-assoc a (3 * e) 1,
-          ← add-assoc a (3 * e) 2)
+          rw (
+            slid-past (k - 1) m clock 0 s few (3 * e) (omega arith) (omega arith),
+            slid-past (k - 1) m clock 0 s few (3 * e + 1) (omega arith) (omega arith),
+            slid-past (k - 1) m clock 0 s few (3 * e + 2) (omega arith) (omega arith),
+            ← add-assoc a (3 * e) 1,
+            ← add-assoc a (3 * e) 2,
+          )
           (simp only-zero)
 
   stores-fit : (a : ℕ) → within ws a (sliding (k - 1) m clock 0) (24 - 3 * (s % 9)) 24 ≡ allUpto (λ e. storeFits s k m clock ws (a + 3 * e) e) 8
@@ -138,11 +141,12 @@ module _ (ws : List ℕ) (words : (j : ℕ) → word ws j ≤ anyWord) (k m q cl
   process-fits =
       let late : Bool = within ws (a + 4) (sliding m m 1 anyWord) (24 - 3 * k) 24
       && within ws (a + 4 + 3 * k) (sliding (k - 1) m clock 0) (24 - 3 * (word ws (a + 3) % 9)) 24 in
-      rw
-      (and-comm (backedAt ws (a + 4) k) (within ws a (leadLimits (q - 1)) 0 4 && late),
-      lead-fits,
-      add-assoc a 4 (3 * k),
-      ← rest-fits (leb (word ws (a + 3)) 8) refl)
+      rw (
+        and-comm (backedAt ws (a + 4) k) (within ws a (leadLimits (q - 1)) 0 4 && late),
+        lead-fits,
+        add-assoc a 4 (3 * k),
+        ← rest-fits (leb (word ws (a + 3)) 8) refl,
+      )
       (simp and-assoc)
 
 -- a turn of the loop over the processes, and its end

@@ -66,7 +66,14 @@ fn piece(faults: Faults, words: &[u32], at: usize, limits: &[u32], from: usize) 
 }
 
 // So many pieces of words against as many of limits.
-fn pieces(mut faults: Faults, words: &[u32], at: usize, limits: &[u32], from: usize, count: usize) -> Faults
+fn pieces(
+    mut faults: Faults,
+    words: &[u32],
+    at: usize,
+    limits: &[u32],
+    from: usize,
+    count: usize,
+) -> Faults
     requires { ⌜ (at + 4 * count ≤ length (now words)) × (from + 4 * count ≤ length (now limits)) ⌝ }
     ensures { λ r. ⌜ none r ≡ (none faults && within (now (words .entry)) at (now (limits .entry)) from (4 * count)) ⌝ }
 {
@@ -84,7 +91,38 @@ fn node_limits(last: u32, clock: u32) -> [u32; 32]
 {
     let any: u32 = 4294967295;
     [
-        0, 0, 0, 0, last, any, 0, 0, 0, any, 0, 0, last, any, 0, 0, last, any, clock, 2, 0, 0, 0, 0, 0, 0, 0, 0, 0, 0, 0, 0,
+        0,
+        0,
+        0,
+        0,
+        last,
+        any,
+        0,
+        0,
+        0, // a Reachable node has no owner
+        any,
+        0,
+        0,
+        last,
+        any,
+        0, // a Removed node has no time of retirement
+        0,
+        last,
+        any,
+        clock,
+        2,
+        0,
+        0,
+        0,
+        0,
+        0,
+        0,
+        0,
+        0,
+        0,
+        0,
+        0,
+        0,
     ]
 }
 
@@ -94,7 +132,13 @@ fn node(faults: Faults, words: &[u32], at: usize, limits: &[u32]) -> Faults
     ensures { λ r. ⌜ none r ≡ (none faults && nodeWithin (now (limits .entry)) (now (words .entry)) at) ⌝ }
 {
     let state = words[at];
-    piece(noted(faults, state > 4), words, at + 1, limits, (state % 8) as usize * 4)
+    piece(
+        noted(faults, state > 4),
+        words,
+        at + 1,
+        limits,
+        (state % 8) as usize * 4,
+    )
 }
 
 // Where the nodes start, after the head and n processes of k hazards.
@@ -127,8 +171,54 @@ fn slide(a: u32, b: u32, c: u32, rest: u32) -> [u32; 48]
     ensures { λ r. ⌜ r ≡ sliding a b c rest ⌝ }
 {
     [
-        a, b, c, a, b, c, a, b, c, a, b, c, a, b, c, a, b, c, a, b, c, a, b, c, rest, rest, rest, rest, rest, rest, rest, rest, rest,
-        rest, rest, rest, rest, rest, rest, rest, rest, rest, rest, rest, rest, rest, rest, rest,
+        a,
+        b,
+        c,
+        a,
+        b,
+        c,
+        a,
+        b,
+        c,
+        a,
+        b,
+        c,
+        a,
+        b,
+        c,
+        a,
+        b,
+        c,
+        a,
+        b,
+        c,
+        a,
+        b,
+        c,
+        rest,
+        rest,
+        rest,
+        rest,
+        rest,
+        rest,
+        rest,
+        rest,
+        rest,
+        rest,
+        rest,
+        rest,
+        rest,
+        rest,
+        rest,
+        rest,
+        rest,
+        rest,
+        rest,
+        rest,
+        rest,
+        rest,
+        rest,
+        rest,
     ]
 }
 
@@ -147,7 +237,15 @@ fn backed(words: &[u32], at: usize, k: usize) -> bool
 }
 
 // The process whose words start at `at`.
-fn process(faults: Faults, words: &[u32], at: usize, k: usize, lead: &[u32], hazards: &[u32], stores: &[u32]) -> Faults
+fn process(
+    faults: Faults,
+    words: &[u32],
+    at: usize,
+    k: usize,
+    lead: &[u32],
+    hazards: &[u32],
+    stores: &[u32],
+) -> Faults
     requires { ⌜ (k ≤ 8) × (at + (28 + 3 * k) ≤ length (now words)) ⌝ }
     requires { ⌜ (length (now lead) ≡ 4) × (length (now hazards) ≡ 48) × (length (now stores) ≡ 48) ⌝ }
     ensures { λ r. ⌜ none r ≡ (none faults && processWithin (now (lead .entry)) (now (hazards .entry)) (now (stores .entry)) k (now (words .entry)) at) ⌝ }
@@ -155,7 +253,14 @@ fn process(faults: Faults, words: &[u32], at: usize, k: usize, lead: &[u32], haz
     let one = noted(faults, !backed(words, at + 4, k));
     let two = pieces(one, words, at, lead, 0, 1);
     let three = pieces(two, words, at + 4, hazards, 24 - 3 * k, 6);
-    pieces(three, words, at + 4 + 3 * k, stores, 24 - 3 * (words[at + 3] % 9) as usize, 6)
+    pieces(
+        three,
+        words,
+        at + 4 + 3 * k,
+        stores,
+        24 - 3 * (words[at + 3] % 9) as usize,
+        6,
+    )
 }
 
 // Whether every process fits.
@@ -186,13 +291,11 @@ fn head_fits(words: &[u32]) -> bool
 {
     ((1 <= words[0]) & (words[0] <= 16))
         & (((1 <= words[1]) & (words[1] <= 8))
-        & (((1 <= words[2]) & (words[2] <= 256))
-        & (((1 <= words[3]) & (words[3] <= 1000))
-        & (((1 <= words[4]) & (words[4] <= 1000))
-        & (((1 <= words[5]) & (words[5] <= 256))
-        & ((words[6] <= 4294967295)
-        & ((words[7] <= 1)
-        & (words[8] <= 2))))))))
+            & (((1 <= words[2]) & (words[2] <= 256))
+                & (((1 <= words[3]) & (words[3] <= 1000))
+                    & (((1 <= words[4]) & (words[4] <= 1000))
+                        & (((1 <= words[5]) & (words[5] <= 256))
+                            & ((words[6] <= 4294967295) & ((words[7] <= 1) & (words[8] <= 2))))))))
 }
 
 // Whether the words are those of a well-formed domain.
