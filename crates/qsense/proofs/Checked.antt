@@ -9,7 +9,7 @@ use Rattle.model.specs.Claims.{reachableCount}
 use Rattle.layout.specs.Encode.{encode, decode}
 use Rattle.layout.specs.Words.{wellFormed}
 use Rattle.layout.specs.Sound.{Sound}
-use Rattle.layout.proofs.Checked.{well-formed-sound}
+use Rattle.layout.proofs.Checked.{well-formed-sound, sound-well-formed}
 use Rattle.steps.specs.Stepped.{Stepped}
 use Rattle.qsense.specs.Calls.{Reply, refusing, stepWords, reachableWords}
 
@@ -25,11 +25,14 @@ module _ (ws : List ℕ) (b : Bool) (e : b ≡ wellFormed ws) where
   unfolding reachableWords
   counted t n q = rw (← e, t, q)
 
-  pub step-refused : (s : Step) → b ≡ false → refusing 3 ws ≡ stepWords ws s
+  pub step-refused : (s : Step) → b ≡ false → (refusing 3 ws ≡ stepWords ws s) × (b ≡ wellFormed ws)
   unfolding stepWords
-  step-refused s t = rw (← e, t)
+  step-refused s t = (rw (← e, t), e)
 
-  pub stepped : (s : Step) → b ≡ true → (r v : ℕ) (ws' : List ℕ) → Stepped (step (decode ws) s) r v ws'
-      → record { refusal = r; value = v; words = ws' } ≡ stepWords ws s
+  pub step-taken : (s : Step) → b ≡ true → (r v : ℕ) (ws' : List ℕ) → Stepped (step (decode ws) s) r v ws'
+      → (record { refusal = r; value = v; words = ws' } ≡ stepWords ws s) × (b ≡ wellFormed ws')
   unfolding stepWords
-  stepped s t r v ws' h = rw (← e, t) (λ i. record { refusal = h .refusal i; value = h .value i; words = h .words i })
+  step-taken s t r v ws' h = (
+    rw (← e, t) (λ i. record { refusal = h .refusal i; value = h .value i; words = h .words i }),
+    t ∙ sym (sound-well-formed (h .sound)),
+  )

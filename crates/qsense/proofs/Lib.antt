@@ -3,3 +3,4 @@ pub mod Made
 pub mod Carry
 pub mod Theorems
 pub mod Checked
+pub mod Turns

@@ -5,6 +5,8 @@ use layout::Params;
 use layout::ProcessId;
 ghost use mathlib.Core.Path.{_≡_};
 ghost use Rattle.qsense.specs.Calls.{lengthFor, makeWords, stepWords, reachableWords};
+ghost use Rattle.qsense.specs.Runs.{runInto};
+ghost use Rattle.qsense.specs.Values.{ranOf};
 ghost use Rattle.domain.specs.Effects.{given};
 ghost use Rattle.qsense_c.specs.Values.{replyOf, paramsOf};
 
@@ -76,6 +78,14 @@ pub extern "C" fn qsense_step(
         refusal: a.refusal,
         value: a.value,
     }
+}
+
+// A list of steps.
+#[no_mangle]
+pub extern "C" fn qsense_run(words: &mut [u32], steps: &[u32], answers: &mut [u32]) -> bool
+    ensures { λ r. ⌜ ranOf r (now (words .exit)) (now (answers .exit)) ≡ runInto (now (words .entry)) (now (steps .entry)) (now (answers .entry)) ⌝ }
+{
+    qsense::run(words, steps, answers)
 }
 
 // How many nodes are Reachable.

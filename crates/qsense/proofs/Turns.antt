@@ -1,0 +1,95 @@
+-- One turn of a run: what is left of the steps and of the answers, before and after it. Assumes nothing.
+use Prim.Native.Nat.{ℕ, suc, _+_, _*_, _-_, _/_, _≤_, _<_}
+use mathlib.Core.Bool.{Bool, true}
+use mathlib.Core.List.{List, [], _∷_, _++_, append-nil, append-assoc}
+use mathlib.Core.Path.{_≡_, refl, sym, ap, _∙_}
+use native.Mathlib.Omega.{arith}
+use native.Mathlib.Nat.{add-zero}
+use lib.ListN.{length, set, take, drop, length-set}
+use lib.Seq.{take-suc-set, take-set-le, take-all, drop-drop, getD-take, getD-drop}
+use Rattle.model.specs.State.{Step}
+use Rattle.layout.specs.Shape.{word}
+use Rattle.layout.specs.Words.{wellFormed}
+use Rattle.qsense.specs.Calls.{stepWords, runWords}
+use Rattle.qsense.specs.Runs.{stepAt, stepsIn, answersOf, stepIn, Taken}
+
+-- the steps from the i-th to the last of n
+abbrev pub left : ℕ → List ℕ → ℕ → List Step
+left n steps i = stepsIn (n - i) (drop (5 * i) steps)
+
+-- after i of n steps: the words ws and the answers rs are on the way to what the whole list leaves
+pub record Going (b : Bool) (n i : ℕ) (steps ws₀ rs₀ ws rs : List ℕ) : Type 0 where
+  pub good : b ≡ wellFormed ws
+  pub words : runWords ws (left n steps i) ≡ runWords ws₀ (stepsIn n steps)
+  pub answers : take (2 * i) rs ++ answersOf ws (left n steps i) ≡ answersOf ws₀ (stepsIn n steps)
+  pub long : length rs ≡ length rs₀
+
+word-in : (steps : List ℕ) (at j : ℕ) → j < 5 → word (take 5 (drop at steps)) j ≡ word steps (at + j)
+word-in steps at j h = getD-take 5 (drop at steps) j 0 h ∙ getD-drop at steps j 0
+
+step-is : (steps : List ℕ) (i : ℕ) → stepAt (take 5 (drop (5 * i) steps)) ≡ stepIn steps i
+step-is steps i = λ t. record {
+  kind = (word-in steps (5 * i) 0 (omega arith) ∙ ap (λ (k : ℕ). word steps k) (add-zero (5 * i))) t;
+  process = word-in steps (5 * i) 1 (omega arith) t;
+  hazard = word-in steps (5 * i) 2 (omega arith) t;
+  node = word-in steps (5 * i) 3 (omega arith) t;
+  guest = word-in steps (5 * i) 4 (omega arith) t;
+}
+
+left-next : (n i : ℕ) (steps : List ℕ) → i < n → left n steps i ≡ stepIn steps i ∷ left n steps (i + 1)
+left-next n i steps h =
+    let e : n - i ≡ suc (n - (i + 1)) = omega arith in
+    let f : 5 * i + 5 ≡ 5 * (i + 1) = omega arith in
+    rw (e, drop-drop, f, step-is)
+
+-- two answers more
+take-two : (rs : List ℕ) (i r v : ℕ) → 2 * i + 2 ≤ length rs
+    → take (2 * (i + 1)) (set (set rs (2 * i) r) (2 * i + 1) v) ≡ take (2 * i) rs ++ (r ∷ v ∷ [])
+take-two rs i r v h =
+    let e : 2 * (i + 1) ≡ suc (2 * i + 1) = omega arith in
+    let f : 2 * i + 1 ≡ suc (2 * i) = omega arith in
+    let one = take-suc-set rs (2 * i) r (omega arith) in
+    let two = take-suc-set (set rs (2 * i) r) (2 * i + 1) v (simp length-set (omega arith)) in
+    ap (λ (n : ℕ). take n (set (set rs (2 * i) r) (2 * i + 1) v)) e ∙ two
+    ∙ ap (λ (n : ℕ). take n (set rs (2 * i) r) ++ (v ∷ [])) f
+    ∙ ap (λ (l : List ℕ). l ++ (v ∷ [])) one
+    ∙ append-assoc (take (2 * i) rs) (r ∷ []) (v ∷ [])
+
+pub going-start : (b : Bool) (n : ℕ) (steps ws rs : List ℕ) → b ≡ wellFormed ws → Going b n 0 steps ws rs ws rs
+going-start b n steps ws rs e =
+    let all : n - 0 ≡ n = omega arith in
+    record {
+      good = e;
+      words = ap (λ (k : ℕ). runWords ws (stepsIn k steps)) all;
+      answers = ap (λ (k : ℕ). answersOf ws (stepsIn k steps)) all;
+      long = refl;
+    }
+
+pub going-on : (b : Bool) (n i : ℕ) (steps ws₀ rs₀ ws rs ws' rs' : List ℕ) → i < n → 2 * n ≤ length rs₀
+    → Going b n i steps ws₀ rs₀ ws rs → Taken b (stepIn steps i) i ws rs ws' rs' → Going b n (i + 1) steps ws₀ rs₀ ws' rs'
+going-on b n i steps ws₀ rs₀ ws rs ws' rs' h l g t =
+    let s = stepIn steps i in
+    let r = stepWords ws s in
+    let next = left-next n i steps h in
+    let front : take (2 * (i + 1)) rs' ≡ take (2 * i) rs ++ (r .refusal ∷ r .value ∷ []) =
+    ap (λ (x : List ℕ). take (2 * (i + 1)) x) (t .answers) ∙ take-two rs i (r .refusal) (r .value) (omega (arith, g .long)) in
+    record {
+      good = t .good;
+      words = ap (λ (w : List ℕ). runWords w (left n steps (i + 1))) (t .words)
+          ∙ sym (ap (λ (ss : List Step). runWords ws ss) next) ∙ g .words;
+      answers = ap (λ (x : List ℕ). x ++ answersOf ws' (left n steps (i + 1))) front
+          ∙ ap (λ (w : List ℕ). take (2 * i) rs ++ (r .refusal ∷ r .value ∷ []) ++ answersOf w (left n steps (i + 1))) (t .words)
+          ∙ append-assoc (take (2 * i) rs) (r .refusal ∷ r .value ∷ []) (answersOf (r .words) (left n steps (i + 1)))
+          ∙ sym (ap (λ (ss : List Step). take (2 * i) rs ++ answersOf ws ss) next) ∙ g .answers;
+      long = rw (t .answers) (simp length-set (g .long));
+    }
+
+pub going-end : (b : Bool) (n i : ℕ) (steps ws₀ rs₀ ws rs : List ℕ) → i ≡ n → length rs₀ ≡ 2 * n → Going b n i steps ws₀ rs₀ ws rs
+    → (ws ≡ runWords ws₀ (stepsIn n steps)) × (rs ≡ answersOf ws₀ (stepsIn n steps))
+going-end b n i steps ws₀ rs₀ ws rs e l g =
+    let over : n - i ≡ 0 = omega arith in
+    let none : left n steps i ≡ [] = ap (λ (k : ℕ). stepsIn k (drop (5 * i) steps)) over in (
+      sym (ap (λ (ss : List Step). runWords ws ss) none) ∙ g .words,
+      sym (take-all (2 * i) rs (omega (arith, g .long))) ∙ sym (append-nil (take (2 * i) rs))
+          ∙ sym (ap (λ (ss : List Step). take (2 * i) rs ++ answersOf ws ss) none) ∙ g .answers,
+    )
