@@ -9,6 +9,7 @@
 #ifndef QSENSE_H
 #define QSENSE_H
 
+#include <stdbool.h>
 #include <stddef.h>
 #include <stdint.h>
 
@@ -69,6 +70,12 @@ qsense_answer qsense_step(uint32_t *words, size_t len, uint32_t kind, uint32_t p
 /* Counts the Reachable nodes: the value. It changes no word. Refused:
  *   3  the words are not a well-formed domain */
 qsense_answer qsense_reachable(const uint32_t *words, size_t len);
+
+/* Takes a list of steps, five words each in the order of qsense_step, and writes an answer for each, two words each: refusal, value.
+ * Answers and words are those of qsense_step called for one after another, with its numbers 3 to 17; the words are checked once.
+ * It returns true, also for an empty list. Where steps_len is not 5 * j with answers_len = 2 * j for some j, it returns false and
+ * writes nothing, neither words nor answers. */
+bool qsense_run(uint32_t *words, size_t len, const uint32_t *steps, size_t steps_len, uint32_t *answers, size_t answers_len);
 
 #ifdef __cplusplus
 }
