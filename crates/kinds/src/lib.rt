@@ -11,34 +11,35 @@ ghost use Rattle.layout.specs.Values.{paramsValue};
 ghost use Rattle.kinds.specs.Table.{rowCode, ranges, held};
 
 // What a field of a step is to a kind.
-const UNREAD: u32 = 0;
+const UNREAD: u8 = 0;
 
-const PROCESS: u32 = 1;
+const PROCESS: u8 = 1;
 
-const HAZARD: u32 = 2;
+const HAZARD: u8 = 2;
 
-const NODE: u32 = 3;
+const NODE: u8 = 3;
 
-const NUMBER: u32 = 4;
+const NUMBER: u8 = 4;
 
 // The state that a kind needs: one of the five, or any.
-const FREE: u32 = 0;
+const FREE: u8 = 0;
 
-const ALLOCATED: u32 = 1;
+const ALLOCATED: u8 = 1;
 
-const REACHABLE: u32 = 2;
+const REACHABLE: u8 = 2;
 
-const REMOVED: u32 = 3;
+const REMOVED: u8 = 3;
 
-const ANY: u32 = 5;
+const ANY: u8 = 5;
 
-// owns: whether the process must own the node.
+// owns: whether the process must own the node. The columns are bytes, since the table is laid out anew at each use: of words, that took
+// longer than the step.
 pub struct Row {
-    pub process: u32,
-    pub hazard: u32,
-    pub node: u32,
-    pub guest: u32,
-    pub needs: u32,
+    pub process: u8,
+    pub hazard: u8,
+    pub node: u8,
+    pub guest: u8,
+    pub needs: u8,
     pub owns: bool,
 }
 
@@ -195,7 +196,7 @@ pub fn held(kind: u32, state: u32, owner: u32, process: ProcessId) -> u32
     ensures { λ r. ⌜ r ≡ held (kindOf kind) state owner (process .0) ⌝ }
 {
     let row = row_of(kind);
-    if (row.needs != ANY) & (state != row.needs) {
+    if (row.needs != ANY) & (state != row.needs as u32) {
         return 8;
     }
     if row.owns & (owner != process.0) {

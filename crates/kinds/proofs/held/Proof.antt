@@ -7,6 +7,9 @@ use Rattle.kinds.proofs.held.Tie as tie
 row-of-requires : tie.Need-row-of-requires
 row-of-requires c κs = search needs
 
+cast-if1 : tie.Need-cast-if1
+cast-if1 c = search needs
+
 returns : tie.Need-returns
 returns c = no-8 _ _ _ _ _ (c .before .before .before .row-of .ensures) (c .if1 .taken)
 
@@ -17,4 +20,4 @@ returns-3 : tie.Need-returns-3
 returns-3 c = is-held _ _ _ _ _ (c .before .before .before .before .before .before .row-of .ensures) (c .before .before .before .if1 .left) (c .if2 .left)
 
 pub held-spec : {M : Type 1} → statement M
-held-spec = tie.close (tie.spec row-of-requires returns returns-2 returns-3)
+held-spec = tie.close (tie.spec row-of-requires cast-if1 returns returns-2 returns-3)
