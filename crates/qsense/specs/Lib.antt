@@ -1,3 +1,4 @@
 pub mod Calls
 pub mod Demands
+pub mod Impostors
 pub mod Values
