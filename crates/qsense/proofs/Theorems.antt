@@ -1,32 +1,37 @@
 -- Each demand of specs/Demands.antt, with its proof. Assumes nothing.
-use Prim.Native.Nat.{ℕ, _+_}
-use mathlib.Core.Bool.{true}
+use Prim.Native.Nat.{ℕ, _+_, _≤_}
+use mathlib.Core.Bool.{true, false}
 use mathlib.Core.List.{List}
 use mathlib.Core.Path.{_≡_, refl, sym, ap, _∙_, subst}
 use mathlib.Core.Logic.{_≢_}
 use native.Mathlib.Omega.{arith}
+use lib.ListN.{length}
 use lib.Dec.{eqb}
-use borrow.Author.Tests.{eqb-true}
+use borrow.Author.Tests.{eqb-true, eqb-false}
+use Rattle.lists.specs.Tests.{every}
 use Rattle.lists.proofs.Bools.{by-cond}
-use Rattle.model.specs.Params.{Params}
+use Rattle.model.specs.Params.{Params, bufferSize}
 use Rattle.model.specs.State.{Domain, Step}
 use Rattle.model.specs.WellFormed.{WellFormed}
 use Rattle.model.specs.Kinds.{kindOf}
+use Rattle.model.specs.Hazards.{here, young}
 use Rattle.model.specs.Questions.{refusalOf}
 use Rattle.model.specs.Retire.{Effect}
 use Rattle.model.specs.Machine.{Outcome, answered, act, step, run, fresh}
 use Rattle.model.specs.Reference.{initial}
-use Rattle.model.specs.Claims.{noHistory, reachableCount}
+use Rattle.model.specs.Claims.{noHistory, reachableCount, turnedFree, freedCount}
 use Rattle.model.proofs.Theorems as Model
 use Rattle.layout.specs.Encode.{encode, decode}
 use Rattle.layout.specs.Words.{wellFormed}
 use Rattle.layout.proofs.Sound.{decoded}
 use Rattle.layout.proofs.Checked.{well-formed-sound, well-formed-encode}
 use Rattle.qsense.specs.Calls.{Reply, refusing, throughWords, stepWords, reachableWords, runWords}
-use Rattle.qsense.specs.Demands.{Demand1, Demand2, Demand3Words, acceptedIn, FollowsWords}
+use Rattle.qsense.specs.Demands.{Demand1, Demand2, FreedAreCountedWords, RefusedForStores, Demand3Words}
+use Rattle.qsense.specs.Demands.{acceptedIn, outcomeOf, FollowsWords}
 use Rattle.qsense.proofs.Through.{run-through, run-well-formed, accepted-through}
 use Rattle.qsense.proofs.Made.{made}
 use Rattle.qsense.proofs.Carry.{follows-words}
+use Rattle.qsense.proofs.Stores.{full, old}
 
 -- ---- Demand 1
 
@@ -81,6 +86,35 @@ counts-fresh a ss f =
 pub demand-2 : Demand2
 demand-2 ws a ss ok =
     let m = made ws a ok in subst (Counts ss) (sym (m .words)) (counts-fresh a ss (Model.fresh-well-formed a (m .range)))
+
+-- ---- freed counts, and refusals for stores
+
+-- nothing turns Free where nothing changes, as in a step of no kind
+pub none-turned : (d : Domain) → turnedFree d d ≡ 0
+unfolding step
+none-turned d = Model.freed-are-counted d (record { kind = 0; process = 0; hazard = 0; node = 0; guest = 0 })
+
+pub freed-are-counted : FreedAreCountedWords
+unfolding stepWords
+freed-are-counted ws s =
+    by-cond (λ r. turnedFree (decode ws) (decode (r .words)) ≡ freedCount s (outcomeOf r)) (wellFormed ws)
+    (λ e. ap (λ (d : Domain). turnedFree (decode ws) d)
+    (decoded refl (Model.step-well-formed (decode ws) s (well-formed-sound ws e .domain)))
+    ∙ Model.freed-are-counted (decode ws) s)
+    (λ _. none-turned (decode ws))
+
+pub refused-for-stores : RefusedForStores
+unfolding stepWords
+refused-for-stores ws s =
+    by-cond
+    (λ (r : Reply). (r .refusal ≡ 13 → bufferSize ≤ length (here (decode ws) s .buffer))
+    × (r .refusal ≡ 16 → every (young (decode ws)) (decode ws .processes) ≡ false))
+    (wellFormed ws)
+    (λ _. (
+      (λ e. full (kindOf (s .kind)) (decode ws) s (sym (step-refusal (decode ws) s) ∙ e)),
+      (λ e. old (kindOf (s .kind)) (decode ws) s (sym (step-refusal (decode ws) s) ∙ e)),
+    ))
+    (λ _. ((λ e. absurd (eqb-false 3 13 refl e)), (λ e. absurd (eqb-false 3 16 refl e))))
 
 -- ---- Demand 3
 

@@ -1,4 +1,5 @@
 pub mod Calls
 pub mod Runs
 pub mod Demands
+pub mod Impostors
 pub mod Values
