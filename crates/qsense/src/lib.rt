@@ -3,16 +3,13 @@ use layout::HazardId;
 use layout::NodeId;
 use layout::Params;
 use layout::ProcessId;
-ghost use mathlib.Core.Bool.{true};
 ghost use mathlib.Core.Path.{_≡_};
 ghost use Prim.Native.Nat.{_+_, _*_, _≤_};
-ghost use lib.ListN.{length, replicate};
-ghost use Rattle.model.specs.Params.{wordCount};
-ghost use Rattle.model.specs.Machine.{fresh};
-ghost use Rattle.layout.specs.Encode.{encode};
+ghost use lib.ListN.{length};
 ghost use Rattle.layout.specs.Values.{paramsValue};
-ghost use Rattle.layout.specs.Words.{between, wellFormed};
-ghost use Rattle.qsense.specs.Calls.{sizesInRange, inRange, makeWords, lengthFor, reachableWords, stepWords};
+ghost use Rattle.layout.specs.Words.{wellFormed};
+ghost use Rattle.fresh.specs.Ranges.{lengthFor};
+ghost use Rattle.qsense.specs.Calls.{makeWords, reachableWords, stepWords};
 ghost use Rattle.domain.specs.Effects.{given};
 ghost use Rattle.qsense.specs.Runs.{stepIn, Taken, runInto};
 ghost use Rattle.qsense.specs.Values.{replyOf, ranOf};
@@ -23,80 +20,24 @@ pub struct Answer {
     pub value: u32,
 }
 
-// Is n one of low to high?
-fn between(low: u32, high: u32, n: u32) -> bool
-    ensures { λ r. ⌜ r ≡ between low high n ⌝ }
-{
-    (low <= n) & (n <= high)
-}
-
-// Are N, K and M in their ranges?
-fn sizes_in_range(n: u32, k: u32, m: u32) -> bool
-    ensures { λ r. ⌜ r ≡ sizesInRange n k m ⌝ }
-{
-    between(1, 16, n) & (between(1, 8, k) & between(1, 256, m))
-}
-
-// Are all six parameters in their ranges?
-fn in_range(params: Params) -> bool
-    ensures { λ r. ⌜ r ≡ inRange (paramsValue params) ⌝ }
-{
-    sizes_in_range(params.processes, params.hazards, params.nodes)
-        & (between(1, 1000, params.visibility)
-            & (between(1, 1000, params.quiescence) & between(1, 256, params.fallback)))
-}
-
-// The words of a domain of N processes, K hazards a process and M nodes.
-fn word_count(n: u32, k: u32, m: u32) -> u32
-    requires { ⌜ sizesInRange n k m ≡ true ⌝ }
-    ensures { λ r. ⌜ r ≡ 9 + n * (28 + 3 * k) + 5 * m ⌝ }
-{
-    9 + n * (28 + 3 * k) + 5 * m
-}
-
-// All words become 0.
-fn clear(words: &mut [u32])
-    ensures { λ _. ⌜ now (words .exit) ≡ replicate (length (now (words .entry))) 0 ⌝ }
-{
-    let mut i = 0;
-    while i < words.len() {
-        words[i] = 0;
-        i += 1;
-    }
-}
-
-// Writes the words of a fresh domain: the parameters, and 0 elsewhere.
-fn write_fresh(words: &mut [u32], params: Params)
-    requires { ⌜ length (now words) ≡ wordCount (paramsValue params) ⌝ }
-    ensures { λ _. ⌜ now (words .exit) ≡ encode (fresh (paramsValue params)) ⌝ }
-{
-    clear(words);
-    words[0] = params.processes;
-    words[1] = params.hazards;
-    words[2] = params.nodes;
-    words[3] = params.visibility;
-    words[4] = params.quiescence;
-    words[5] = params.fallback;
-}
-
 // Makes a fresh domain of the words. Refused with 1 unless every parameter is in its range, then with 2 unless the words are exactly as
 // many as such a domain takes; refused, it writes nothing.
 pub fn make(words: &mut [u32], params: Params) -> Answer
     ensures { λ r. ⌜ replyOf r (now (words .exit)) ≡ makeWords (now (words .entry)) (paramsValue params) ⌝ }
 {
-    if !in_range(params) {
+    if !fresh::in_range(params) {
         return Answer {
             refusal: 1,
             value: 0,
         };
     }
-    if words.len() != layout::wide(word_count(params.processes, params.hazards, params.nodes)) {
+    if words.len() != layout::wide(fresh::length(params.processes, params.hazards, params.nodes)) {
         return Answer {
             refusal: 2,
             value: 0,
         };
     }
-    write_fresh(words, params);
+    fresh::write_fresh(words, params);
     Answer {
         refusal: 0,
         value: 0,
@@ -107,11 +48,7 @@ pub fn make(words: &mut [u32], params: Params) -> Answer
 pub fn length(n: u32, k: u32, m: u32) -> u32
     ensures { λ r. ⌜ r ≡ lengthFor n k m ⌝ }
 {
-    if sizes_in_range(n, k, m) {
-        word_count(n, k, m)
-    } else {
-        0
-    }
+    fresh::length(n, k, m)
 }
 
 // How many nodes are Reachable. Refused with 3 unless the words are those of a well-formed domain.

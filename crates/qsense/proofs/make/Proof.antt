@@ -8,8 +8,9 @@ use borrow.Author.Tests.{eq-eqb, ne-eqb, not-true, not-false}
 use lib.ListN.{length}
 use Rattle.model.specs.Params.{wordCount}
 use Rattle.layout.specs.Values.{paramsValue}
-use Rattle.qsense.specs.Calls.{inRange, makeWords}
-use Rattle.qsense.proofs.Made.{sizes-of}
+use Rattle.fresh.specs.Ranges.{inRange}
+use Rattle.fresh.proofs.Ranges.{length-in-range}
+use Rattle.qsense.specs.Calls.{makeWords}
 use Rattle.qsense.proofs.make.Statement.{statement}
 use Rattle.qsense.proofs.make.Tie as tie
 
@@ -23,8 +24,8 @@ returns c = rw (sym (c .before .in-range .ensures) ∙ not-true _ (c .if1 .taken
 checked : (c : tie.Else1) → inRange (paramsValue (c .before .before .before .args .params)) ≡ true
 checked c = sym (c .before .in-range .ensures) ∙ not-false _ (c .if1 .left)
 
-word-count-requires : tie.Need-word-count-requires
-word-count-requires c κs = sizes-of (paramsValue (c .before .before .before .args .params)) (checked c)
+length-requires : tie.Need-length-requires
+length-requires c κs = search needs
 
 wide-requires : tie.Need-wide-requires
 wide-requires c κs = search needs
@@ -33,11 +34,16 @@ returns-2 : tie.Need-returns-2
 unfolding makeWords
 returns-2 c =
     let a = c .before .before .before .before .before .before .args in
-    let other : length (a .words .now) ≢ wordCount (paramsValue (a .params)) = λ e. c .if2 .taken (omega arith) in
-    rw (checked (c .before .before .before), ne-eqb _ _ other)
+    let yes' = checked (c .before .before .before) in
+    let long = length-in-range (paramsValue (a .params)) yes' in
+    let other : length (a .words .now) ≢ wordCount (paramsValue (a .params)) = λ e. c .if2 .taken (omega (arith, long)) in
+    rw (yes', ne-eqb _ _ other)
 
 write-fresh-requires : tie.Need-write-fresh-requires
-write-fresh-requires c κs = search needs
+write-fresh-requires c κs =
+    let long = length-in-range (paramsValue (c .before .before .before .before .before .before .before .args .params))
+    (checked (c .before .before .before .before)) in
+    omega (arith, long)
 
 same-length : tie.Need-same-length
 same-length c = search needs
@@ -46,8 +52,10 @@ returns-3 : tie.Need-returns-3
 unfolding makeWords
 returns-3 c =
     let a = c .before .before .before .before .before .before .before .before .before .before .args in
-    let long : length (a .words .now) ≡ wordCount (paramsValue (a .params)) = omega arith in
-    rw (checked (c .before .before .before .before .before .before .before), eq-eqb _ _ long)
+    let yes' = checked (c .before .before .before .before .before .before .before) in
+    let wide = length-in-range (paramsValue (a .params)) yes' in
+    let long : length (a .words .now) ≡ wordCount (paramsValue (a .params)) = omega (arith, wide) in
+    rw (yes', eq-eqb _ _ long)
     (λ t. record { refusal = 0; value = 0; words = c .before .before .write-fresh .ensures t })
 
 pub make-spec : {M : Type 1} → statement M
@@ -56,7 +64,7 @@ make-spec =
     (tie.spec
     in-range-requires
     returns
-    word-count-requires
+    length-requires
     wide-requires
     returns-2
     write-fresh-requires

@@ -1,10 +1,10 @@
--- `qsense::length` meets its contract: the test decides between the count and 0. Assumes nothing.
+-- `fresh::length` meets its contract: the test decides between the count and 0. Assumes nothing.
 use mathlib.Core.Bool.{true}
 use mathlib.Core.Path.{_≡_, sym, _∙_}
 use borrow.Author.Needs.{needs}
-use Rattle.qsense.specs.Calls.{sizesInRange, lengthFor}
-use Rattle.qsense.proofs.length.Statement.{statement}
-use Rattle.qsense.proofs.length.Tie as tie
+use Rattle.fresh.specs.Ranges.{sizesInRange, lengthFor}
+use Rattle.fresh.proofs.length.Statement.{statement}
+use Rattle.fresh.proofs.length.Tie as tie
 
 tested : (c : tie.Then1) → sizesInRange (c .before .before .args .n) (c .before .before .args .k) (c .before .before .args .m) ≡ true
 tested c = sym (c .before .sizes-in-range .ensures) ∙ c .if1 .taken

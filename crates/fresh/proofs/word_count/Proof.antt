@@ -1,11 +1,11 @@
--- `qsense::word_count` meets its contract: in the ranges no sum and no product wraps. Assumes nothing.
+-- `fresh::word_count` meets its contract: in the ranges no sum and no product wraps. Assumes nothing.
 use Prim.Native.Nat.{_+_, _*_, _≤_}
 use native.Mathlib.Omega.{arith}
 use borrow.Author.Needs.{needs}
 use Rattle.layout.proofs.Sound.{rows-small}
-use Rattle.qsense.proofs.Made.{SizesInRange, sizes-in-range}
-use Rattle.qsense.proofs.word_count.Statement.{statement}
-use Rattle.qsense.proofs.word_count.Tie as tie
+use Rattle.fresh.proofs.Ranges.{SizesInRange, sizes-in-range}
+use Rattle.fresh.proofs.word_count.Statement.{statement}
+use Rattle.fresh.proofs.word_count.Tie as tie
 
 few : (c : tie.Start) → SizesInRange (c .args .n) (c .args .k) (c .args .m) × (c .args .n * (28 + 3 * c .args .k) ≤ 832)
 few c =

@@ -1,4 +1,4 @@
--- `qsense::write_fresh` meets its contract: all words 0, and then the parameters in the first six. Assumes nothing.
+-- `fresh::write_fresh` meets its contract: all words 0, and then the parameters in the first six. Assumes nothing.
 use Prim.Native.Nat.{ℕ}
 use mathlib.Core.List.{List}
 use mathlib.Core.Path.{_∙_, ap}
@@ -8,8 +8,8 @@ use native.Mathlib.Omega.{arith}
 use borrow.Author.Needs.{needs}
 use Rattle.layout.specs.Values.{paramsValue}
 use Rattle.layout.proofs.Fresh.{paramWords, fresh-words}
-use Rattle.qsense.proofs.write_fresh.Statement.{statement}
-use Rattle.qsense.proofs.write_fresh.Tie as tie
+use Rattle.fresh.proofs.write_fresh.Statement.{statement}
+use Rattle.fresh.proofs.write_fresh.Tie as tie
 
 clear-requires : tie.Need-clear-requires
 clear-requires c κs = search needs

@@ -1,4 +1,4 @@
--- `qsense::clear` meets its contract. The loop's invariant: the first i words are 0, the others as they were. The measure is what is left
+-- `fresh::clear` meets its contract. The loop's invariant: the first i words are 0, the others as they were. The measure is what is left
 -- of the length. Assumes nothing.
 use Prim.Native.Nat.{_-_, _≤_}
 use mathlib.Core.List.{_++_, append-nil}
@@ -8,8 +8,8 @@ use lib.Seq.{drop-length}
 use native.Mathlib.Omega.{arith}
 use borrow.Author.Needs.{needs}
 use borrow.Author.Fill.{fill-none, fill-more}
-use Rattle.qsense.proofs.clear.Statement.{statement}
-use Rattle.qsense.proofs.clear.Tie as tie
+use Rattle.fresh.proofs.clear.Statement.{statement}
+use Rattle.fresh.proofs.clear.Tie as tie
 
 abbrev Inv-loop : tie.InvT-loop
 Inv-loop words₀ i₀ words i = (i ≤ length words₀) × (length words ≡ length words₀) × (words ≡ replicate i 0 ++ drop i words₀)

@@ -1,8 +1,8 @@
--- `qsense::in_range` meets its contract: the sizes, and three ranges. Assumes nothing.
+-- `fresh::in_range` meets its contract: the sizes, and three ranges. Assumes nothing.
 use borrow.Author.Needs.{needs}
-use Rattle.qsense.specs.Calls.{inRange}
-use Rattle.qsense.proofs.in_range.Statement.{statement}
-use Rattle.qsense.proofs.in_range.Tie as tie
+use Rattle.fresh.specs.Ranges.{inRange}
+use Rattle.fresh.proofs.in_range.Statement.{statement}
+use Rattle.fresh.proofs.in_range.Tie as tie
 
 sizes-in-range-requires : tie.Need-sizes-in-range-requires
 sizes-in-range-requires c κs = search needs

@@ -1,8 +1,8 @@
--- `qsense::sizes_in_range` meets its contract: three ranges. Assumes nothing.
+-- `fresh::sizes_in_range` meets its contract: three ranges. Assumes nothing.
 use borrow.Author.Needs.{needs}
-use Rattle.qsense.specs.Calls.{sizesInRange}
-use Rattle.qsense.proofs.sizes_in_range.Statement.{statement}
-use Rattle.qsense.proofs.sizes_in_range.Tie as tie
+use Rattle.fresh.specs.Ranges.{sizesInRange}
+use Rattle.fresh.proofs.sizes_in_range.Statement.{statement}
+use Rattle.fresh.proofs.sizes_in_range.Tie as tie
 
 between-requires : tie.Need-between-requires
 between-requires c κs = search needs
