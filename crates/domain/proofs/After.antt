@@ -1,13 +1,12 @@
 -- Words after a call, as those of a domain: what the next call asks for. Assumes nothing.
 use Prim.Native.Nat.{ℕ, _<_}
 use mathlib.Core.List.{List}
-use mathlib.Core.Path.{_≡_, refl, sym, _∙_, ap}
+use mathlib.Core.Path.{_≡_, refl, _∙_, ap}
 use Rattle.model.specs.WellFormed.{WellFormed}
 use Rattle.model.specs.State.{Domain}
 use Rattle.model.specs.Retire.{Effect}
 use Rattle.layout.specs.Shape.{word}
 use Rattle.layout.specs.Encode.{encode, decode, encodeBy, decodeBy}
-use Rattle.layout.specs.Sound.{Sound}
 use Rattle.layout.proofs.Sound.{decoded}
 use Rattle.domain.specs.Effects.{Does}
 

@@ -1,5 +1,3 @@
 pub mod Head
 pub mod Nodes
-pub mod Processes
-pub mod Assigned
 pub mod After

@@ -2,7 +2,7 @@
 use Prim.Native.Nat.{ℕ, _+_, _*_, _-_, _≤_}
 use mathlib.Core.Bool.{Bool}
 use mathlib.Core.List.{List}
-use mathlib.Core.Path.{_≡_, refl, sym, _∙_, ap}
+use mathlib.Core.Path.{_≡_, refl, _∙_, ap}
 use native.Mathlib.Omega.{arith}
 use lib.ListN.{length, take, drop, length-drop}
 use lib.Seq.{take-all}
@@ -16,7 +16,8 @@ use Rattle.layout.specs.Shape.{word, nodeAt, nodeWords}
 use Rattle.layout.specs.Encode.{encode, decode, decodeBy}
 use Rattle.layout.specs.Sound.{Sound}
 use Rattle.layout.proofs.Sound.{nodes-written}
-use Rattle.nodes.specs.Nodes.{nodesIn, Swept}
+use Rattle.nodes.specs.Nodes.{nodesIn}
+use Rattle.sweeps.specs.Sweeps.{Swept}
 use Rattle.domain.specs.Effects.{Does}
 
 module _ {ws : List ℕ} (s : Sound ws) (a : ℕ) (e : a ≡ 9 + word ws 0 * (28 + 3 * word ws 1)) where

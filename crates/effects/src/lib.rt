@@ -1,15 +1,14 @@
-// What the kinds do that touch one node or one process: 1 to 7 and 9 to 11. Each asks only for what its questions have answered.
+// What the kinds do that touch one node or the clock: 1, 2, 5, 7 and 11 (allocate, publish, use, remove, tick). Each asks only for what its
+// questions have answered.
 use layout::HazardId;
 use layout::Node;
 use layout::NodeId;
 use layout::ProcessId;
 ghost use mathlib.Core.Path.{_≡_};
-ghost use mathlib.Core.Logic.{_≢_};
 ghost use Prim.Native.Nat.{_<_};
-ghost use lib.ListN.{length};
-ghost use Rattle.model.specs.Params.{bufferSize, lastClock};
+ghost use Rattle.model.specs.Params.{lastClock};
 ghost use Rattle.model.specs.State.{processOf, hazardOf};
-ghost use Rattle.model.specs.Kinds.{Allocate, Publish, Protect, Check, Use, Clear, Remove, Drain, Flush, Tick};
+ghost use Rattle.model.specs.Kinds.{Allocate, Publish, Use, Remove, Tick};
 ghost use Rattle.model.specs.Machine.{act};
 ghost use Rattle.layout.specs.Shape.{word};
 ghost use Rattle.layout.specs.Encode.{encode, decode};
@@ -78,7 +77,7 @@ pub fn guest_of(words: &[u32], p: ProcessId, h: HazardId) -> u32
     requires { ⌜ hazardOf (processOf (decode (now words)) (p .0)) (h .0) .validated ≡ 1 ⌝ }
     ensures { λ r. ⌜ r ≡ act Use (decode (now (words .entry))) (given 5 (p .0) (h .0) 0 0) .value ⌝ }
 {
-    let y = domain::hazard(words, p, h);
+    let y = process::hazard(words, p, h);
     let node = y.assigned;
     if node == 0 {
         return 0;

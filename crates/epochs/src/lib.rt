@@ -1,6 +1,5 @@
 // Manage: calls counted, presence, the switch back to the fast path, and the quiescent state.
 use layout::ProcessId;
-ghost use mathlib.Core.Path.{_≡_};
 ghost use Prim.Native.Nat.{_<_};
 ghost use Rattle.model.specs.Kinds.{Manage};
 ghost use Rattle.model.specs.Epochs.{adopt, quiescent, managing};
@@ -16,9 +15,9 @@ fn adopt(words: &mut [u32], p: ProcessId) -> u32
     ensures { λ r. ⌜ Does (adopt (decode (now (words .entry))) (p .0)) (now (words .exit)) r ⌝ }
 {
     let freed = domain::sweep_expired(words, p);
-    let l = domain::lead(words, p);
+    let l = process::lead(words, p);
     let global = domain::epoch(words);
-    domain::set_lead(words, p, global, l.calls, l.presence);
+    process::set_lead(words, p, global, l.calls, l.presence);
     freed
 }
 
@@ -27,7 +26,7 @@ fn quiescent(words: &mut [u32], p: ProcessId) -> u32
     requires { ⌜ Sound (now words) × (p .0 < word (now words) 0) ⌝ }
     ensures { λ r. ⌜ Does (quiescent (decode (now (words .entry))) (p .0)) (now (words .exit)) r ⌝ }
 {
-    let l = domain::lead(words, p);
+    let l = process::lead(words, p);
     let global = domain::epoch(words);
     if l.epoch != global {
         return adopt(words, p);
@@ -59,13 +58,13 @@ pub fn manage(words: &mut [u32], p: ProcessId) -> u32
     requires { ⌜ Sound (now words) × (p .0 < word (now words) 0) ⌝ }
     ensures { λ r. ⌜ Does (act Manage (decode (now (words .entry))) (given 12 (p .0) 0 0 0)) (now (words .exit)) r ⌝ }
 {
-    let l = domain::lead(words, p);
+    let l = process::lead(words, p);
     let a = domain::bounds(words);
     let calls = (l.calls + 1) % a.quiescence;
     if calls != 0 {
-        domain::set_lead(words, p, l.epoch, calls, l.presence);
+        process::set_lead(words, p, l.epoch, calls, l.presence);
         return 0;
     }
-    domain::set_lead(words, p, l.epoch, 0, 1);
+    process::set_lead(words, p, l.epoch, 0, 1);
     managing(words, p)
 }

@@ -3,7 +3,7 @@ use layout::Params;
 ghost use mathlib.Core.Bool.{true};
 ghost use mathlib.Core.Path.{_≡_};
 ghost use Prim.Native.Nat.{_+_, _*_};
-ghost use lib.ListN.{length, replicate};
+ghost use lib.ListN.{length};
 ghost use Rattle.model.specs.Params.{wordCount};
 ghost use Rattle.model.specs.Machine.{fresh};
 ghost use Rattle.layout.specs.Encode.{encode};
@@ -42,23 +42,12 @@ fn word_count(n: u32, k: u32, m: u32) -> u32
     9 + n * (28 + 3 * k) + 5 * m
 }
 
-// All words become 0.
-fn clear(words: &mut [u32])
-    ensures { λ _. ⌜ now (words .exit) ≡ replicate (length (now (words .entry))) 0 ⌝ }
-{
-    let mut i = 0;
-    while i < words.len() {
-        words[i] = 0;
-        i += 1;
-    }
-}
-
 // Writes the words of a fresh domain: the parameters, and 0 elsewhere.
 pub fn write_fresh(words: &mut [u32], params: Params)
     requires { ⌜ length (now words) ≡ wordCount (paramsValue params) ⌝ }
     ensures { λ _. ⌜ now (words .exit) ≡ encode (fresh (paramsValue params)) ⌝ }
 {
-    clear(words);
+    layout::clear(words);
     words[0] = params.processes;
     words[1] = params.hazards;
     words[2] = params.nodes;

@@ -6,3 +6,4 @@ pub mod Fits
 pub mod FitsProcess
 pub mod Checked
 pub mod Fresh
+pub mod Room

@@ -1,6 +1,10 @@
-// The values that travel by value: ids, parameters, and the records that stand in a domain's words; and a word as an index.
+// The values that travel by value: ids, parameters, and the records that stand in a domain's words; a word as an index, where things
+// stand, and words cleared.
 ghost use mathlib.Core.Path.{_≡_};
-ghost use Prim.Native.Nat.{_<_};
+ghost use Prim.Native.Nat.{_≤_, _<_};
+ghost use lib.ListN.{length, replicate};
+ghost use Rattle.layout.specs.Codecs.{shape};
+ghost use Rattle.layout.specs.Shape.{processStart};
 
 // A process (the paper's worker), a hazard of a process (slot) and a node (card), each counted from 0.
 pub struct ProcessId(pub u32);
@@ -47,4 +51,23 @@ pub fn wide(x: u32) -> usize
     ensures { λ r. ⌜ (r ≡ x) × (r < 4294967296) ⌝ }
 {
     x as usize
+}
+
+// Where process p starts, with k hazards a process; of the number of processes, where the nodes start.
+pub fn process_start(k: u32, p: u32) -> usize
+    requires { ⌜ (k ≤ 8) × (p ≤ 16) ⌝ }
+    ensures { λ r. ⌜ (r ≡ processStart shape k p) × (r ≤ 841) ⌝ }
+{
+    9 + wide(p) * (28 + 3 * wide(k))
+}
+
+// All words become 0.
+pub fn clear(words: &mut [u32])
+    ensures { λ _. ⌜ now (words .exit) ≡ replicate (length (now (words .entry))) 0 ⌝ }
+{
+    let mut i = 0;
+    while i < words.len() {
+        words[i] = 0;
+        i += 1;
+    }
 }

@@ -28,11 +28,6 @@ further : (i w j v : ℕ) → v ≡ w → suc i * w + j ≡ v + (i * w + j)
 further i w j v e = omega (arith, suc-mul i w)
 
 -- numbers written one after the other past a front
-pub sets-append-add : (vs xs ys : List ℕ) (n : ℕ) → sets (xs ++ ys) (length xs + n) vs ≡ xs ++ sets ys n vs
-sets-append-add [] xs ys n = refl
-sets-append-add (v ∷ vs) xs ys n =
-    rw (set-append-add xs ys n v, ← add-suc (length xs) n) (sets-append-add vs xs (set ys n v) (suc n))
-
 module _ {X : Type 0} (put : X → List ℕ) (w : ℕ) (x₀ : X) where
   others : (x : X) (xs : List X) → Wide put w x₀ (x ∷ xs) → Wide put w x₀ xs
   others x xs h i l = h (suc i) (omega arith)

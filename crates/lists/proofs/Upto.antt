@@ -1,6 +1,6 @@
 -- What a loop that counts up makes: its start, a turn of it, and what its end says of each number below the bound. Assumes nothing.
 use Prim.Native.Nat.{ℕ, zero, suc, _+_, _<_}
-use mathlib.Core.Bool.{Bool, true, false, _&&_, _||_}
+use mathlib.Core.Bool.{Bool, true, _&&_}
 use mathlib.Core.List.{List, [], _∷_}
 use mathlib.Core.Path.{_≡_, refl, sym, subst}
 use mathlib.Core.Logic.{⊎-elim}
@@ -9,7 +9,7 @@ use native.Mathlib.Numerals.{add-one}
 use native.Mathlib.Nat.{not-suc-le-zero, eq-or-lt-of-le, le-of-suc-le-suc}
 use lib.ListN.{length, getD}
 use Rattle.lists.specs.Tests.{All}
-use Rattle.lists.specs.Upto.{allUpto, anyUpto, sumUpto}
+use Rattle.lists.specs.Upto.{allUpto}
 use Rattle.lists.proofs.Bools.{both}
 
 -- ---- the start
@@ -18,27 +18,11 @@ pub all-none : (f : ℕ → Bool) → true ≡ allUpto f 0
 unfolding allUpto
 all-none f = refl
 
-pub any-none : (f : ℕ → Bool) → false ≡ anyUpto f 0
-unfolding anyUpto
-any-none f = refl
-
-pub sum-none : (f : ℕ → ℕ) → 0 ≡ sumUpto f 0
-unfolding sumUpto
-sum-none f = refl
-
 -- ---- a turn
 
 pub all-more : (f : ℕ → Bool) (j : ℕ) (b : Bool) → b ≡ allUpto f j → (b && f j) ≡ allUpto f (j + 1)
 unfolding allUpto
 all-more f j b e = rw (add-one j, e)
-
-pub any-more : (f : ℕ → Bool) (j : ℕ) (b : Bool) → b ≡ anyUpto f j → (b || f j) ≡ anyUpto f (j + 1)
-unfolding anyUpto
-any-more f j b e = rw (add-one j, e)
-
-pub sum-more : (f : ℕ → ℕ) (j b : ℕ) → b ≡ sumUpto f j → b + f j ≡ sumUpto f (j + 1)
-unfolding sumUpto
-sum-more f j b e = rw (add-one j, e)
 
 -- ---- the same of two tests that agree below the bound
 
@@ -46,11 +30,6 @@ pub all-ext : (f g : ℕ → Bool) (n : ℕ) → ((i : ℕ) → i < n → f i �
 unfolding allUpto
 all-ext f g zero h = refl
 all-ext f g (suc n) h = rw (all-ext f g n (λ i l. h i (omega arith)), h n (omega arith))
-
-pub any-ext : (f g : ℕ → Bool) (n : ℕ) → ((i : ℕ) → i < n → f i ≡ g i) → anyUpto f n ≡ anyUpto g n
-unfolding anyUpto
-any-ext f g zero h = refl
-any-ext f g (suc n) h = rw (any-ext f g n (λ i l. h i (omega arith)), h n (omega arith))
 
 -- ---- number by number
 

@@ -1,3 +1,1 @@
 pub mod Part
-pub mod Counting
-pub mod Sweeping

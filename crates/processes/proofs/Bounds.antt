@@ -16,9 +16,5 @@ module _ {ws : List ℕ} (s : Sound ws) where
   processes-length = s .domain .processCount ∙ sym (head-words ws .processes)
 
   -- the parameters that the code has read
-  module _ {a : Params} (e : paramsValue a ≡ decode ws .params) where
-    pub processes-word : a .processes ≡ word ws 0
-    processes-word = ap (λ b. b .processes) e ∙ sym (head-words ws .processes)
-
-    pub hazards-word : a .hazards ≡ word ws 1
-    hazards-word = ap (λ b. b .hazards) e ∙ sym (head-words ws .hazards)
+  pub processes-word : {a : Params} → paramsValue a ≡ decode ws .params → a .processes ≡ word ws 0
+  processes-word e = ap (λ b. b .processes) e ∙ sym (head-words ws .processes)

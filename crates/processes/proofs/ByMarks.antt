@@ -1,5 +1,5 @@
 -- What a scan by marks sees, and that it frees what the scan of the model frees. Assumes nothing.
-use Prim.Native.Nat.{ℕ, suc, _+_, _*_, _-_, _<_, _≤_}
+use Prim.Native.Nat.{ℕ, suc, _+_, _-_, _<_, _≤_}
 use mathlib.Core.Bool.{Bool, false}
 use mathlib.Core.List.{List, [], _∷_, _++_}
 use mathlib.Core.Path.{_≡_, refl, sym, ap, subst, _∙_}
@@ -18,7 +18,9 @@ use Rattle.layout.specs.Shape.{word}
 use Rattle.layout.specs.Encode.{encode, decode, processAt}
 use Rattle.layout.specs.Sound.{Sound}
 use Rattle.layout.proofs.Sound.{head-words}
-use Rattle.domain.proofs.Processes.{lent-process}
+use Rattle.process.specs.declared.Place.{Place}
+use Rattle.process.specs.Places.{Placed}
+use Rattle.process.proofs.Processes.{lent-process}
 use Rattle.domain.specs.Effects.{Does, unmarked}
 use Rattle.processes.specs.Marks.{marking, visibleNodes}
 use Rattle.processes.proofs.Marks.{unmarked-at}
@@ -37,10 +39,10 @@ module _ {ws : List ℕ} (s : Sound ws) where
       (process-fits (s .domain) p (rw (← head-words ws .processes) l) .stores .hazards)
 
   -- the same of the stretch that is lent
-  pub lent-small : (p k a e : ℕ) → p < word ws 0 → k ≡ word ws 1 → a ≡ 9 + p * (28 + 3 * word ws 1) → e ≡ a + (28 + 3 * k)
-      → All (λ h. h .visible ≤ 256) (processAt k (take (e - a) (drop a ws)) .hazards)
-  lent-small p k a e l ek ea ee =
-      subst (λ (x : Process). All (λ h. h .visible ≤ 256) (x .hazards)) (sym (lent-process s p k a e l ek ea ee)) (visible-small p l)
+  pub lent-small : {p : ℕ} {r : Place} → p < word ws 0 → Placed ws p r
+      → All (λ h. h .visible ≤ 256) (processAt (r .k) (take (r .to - r .from) (drop (r .from) ws)) .hazards)
+  lent-small {p} l e =
+      subst (λ (x : Process). All (λ h. h .visible ≤ 256) (x .hazards)) (sym (lent-process s l e)) (visible-small p l)
 
   module _ (p : ℕ) (marks : List Bool) (e : marks ≡ marking (replicate 257 false) (visibleTo (decode ws) p)) where
     agree : (c : ℕ) (n : Node) → c < 0 + length (decode ws .nodes)

@@ -1,6 +1,7 @@
 // The loops over all processes of a domain's words, and the scan.
 use layout::HazardId;
 use layout::ProcessId;
+use process::Place;
 ghost use mathlib.Core.Path.{_≡_};
 ghost use Prim.Native.Nat.{ℕ, _≤_, _<_};
 ghost use Rattle.lists.specs.Tests.{every, All};
@@ -26,7 +27,7 @@ pub fn all_young(words: &[u32]) -> bool
     let mut ok = true;
     let mut p: u32 = 0;
     while p < n {
-        ok = ok & domain::young(words, ProcessId(p));
+        ok = ok & process::young(words, ProcessId(p));
         p += 1;
     }
     ok
@@ -42,7 +43,7 @@ pub fn caught_up(words: &[u32]) -> bool
     let mut ok = true;
     let mut q: u32 = 0;
     while q < n {
-        let lead = domain::lead(words, ProcessId(q));
+        let lead = process::lead(words, ProcessId(q));
         ok = ok & (lead.epoch == epoch);
         q += 1;
     }
@@ -58,7 +59,7 @@ pub fn all_present(words: &[u32]) -> bool
     let mut ok = true;
     let mut p: u32 = 0;
     while p < n {
-        let lead = domain::lead(words, ProcessId(p));
+        let lead = process::lead(words, ProcessId(p));
         ok = ok & (lead.presence == 1);
         p += 1;
     }
@@ -73,8 +74,8 @@ pub fn clear_presence(words: &mut [u32])
     let n = domain::bounds(words).processes;
     let mut p: u32 = 0;
     while p < n {
-        let lead = domain::lead(words, ProcessId(p));
-        domain::set_lead(words, ProcessId(p), lead.epoch, lead.calls, 0);
+        let lead = process::lead(words, ProcessId(p));
+        process::set_lead(words, ProcessId(p), lead.epoch, lead.calls, 0);
         p += 1;
     }
 }
@@ -89,7 +90,7 @@ fn mark_row(row: &[u32], k: usize, marks: &mut [bool; 257])
     let mut h: u32 = 0;
     while layout::wide(h) < k {
         let hazard = stretch::hazard(row, k, HazardId(h));
-        nodes::mark(marks, hazard.visible);
+        sweeps::mark(marks, hazard.visible);
         h += 1;
     }
 }
@@ -99,10 +100,8 @@ fn mark_process(words: &[u32], q: ProcessId, marks: &mut [bool; 257])
     requires { ⌜ Sound (now words) × (q .0 < word (now words) 0) ⌝ }
     ensures { λ _. ⌜ now (marks .exit) ≡ marking (now (marks .entry)) (visibleNodes (processOf (decode (now (words .entry))) (q .0))) ⌝ }
 {
-    let k = layout::wide(domain::bounds(words).hazards);
-    let a = domain::process_at(words, q);
-    let e = a + (28 + 3 * k);
-    mark_row(&words[a..e], k, marks);
+    let Place { k, from, to } = process::place_of(words, q);
+    mark_row(&words[from..to], k, marks);
 }
 
 // Marks each node that a scan, by whichever process, sees in a hazard.

@@ -17,7 +17,7 @@ use Rattle.qsense.specs.Calls.{Reply, throughWords, stepWords, runWords}
 use Rattle.qsense.specs.Demands.{acceptedIn}
 
 -- words that pass the test are stepped
-pub stepped : (ws : List ℕ) (s : Step) → wellFormed ws ≡ true → stepWords ws s ≡ throughWords (step (decode ws) s)
+stepped : (ws : List ℕ) (s : Step) → wellFormed ws ≡ true → stepWords ws s ≡ throughWords (step (decode ws) s)
 unfolding stepWords
 stepped ws s e = rw e
 

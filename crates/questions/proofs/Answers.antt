@@ -2,29 +2,36 @@
 use Prim.Native.Nat.{ℕ, _-_, _<_, _≤_}
 use mathlib.Core.Bool.{Bool, not, cond}
 use mathlib.Core.List.{List}
-use mathlib.Core.Path.{_≡_, refl, sym, _∙_, ap}
+use mathlib.Core.Path.{_≡_, sym, _∙_, ap}
 use mathlib.Core.Logic.{_≢_}
 use native.Mathlib.Omega.{arith}
 use borrow.Author.Tests.{eq-eqb, ne-eqb, le-ltb, lt-ltb}
 use lib.Dec.{ltb, eqb}
 use lib.ListN.{List·getD-eq-default}
-use Rattle.lists.proofs.Facts.{all-at}
-use Rattle.model.specs.WellFormed.{HazardFits}
-use Rattle.model.specs.State.{Hazard, Node, Domain, Step, Reachable, emptyHazard, freeNode, nodeOf, processOf, hazardOf}
+use Rattle.model.specs.State.{Hazard, Node, Domain, Step, Reachable, freeNode, nodeOf}
 use Rattle.model.specs.Kinds.{Kind}
 use Rattle.lists.specs.Tests.{every}
 use Rattle.model.specs.Params.{lastClock}
 use Rattle.model.specs.Hazards.{pointer, target, young}
-use Rattle.model.proofs.WellFormed.{process-fits}
 use Rattle.layout.specs.Shape.{word}
-use Rattle.layout.specs.Encode.{decode, decodeBy}
+use Rattle.layout.specs.Encode.{decode}
 use Rattle.layout.specs.Sound.{Sound}
+use Rattle.layout.specs.Values.{paramsValue}
+use Rattle.layout.specs.declared.Params.{Params}
+use Rattle.layout.proofs.Sound.{head-words}
 use Rattle.kinds.specs.Table.{held}
 
--- a node past the last reads as a Free one
-pub past-last : {ws : List ℕ} → Sound ws → (c : ℕ) → word ws 2 ≤ c → freeNode ≡ nodeOf (decode ws) c
-unfolding decodeBy
-past-last {ws} s c h = sym (List·getD-eq-default (decode ws .nodes) freeNode {n = c} (omega (arith, s .domain .nodeCount)))
+-- the number of nodes, as the code has read it
+module _ {ws : List ℕ} (s : Sound ws) {a : Params} (e : paramsValue a ≡ decode ws .params) (c : ℕ) where
+  many : a .nodes ≡ decode ws .params .nodes
+  many = ap (λ b. b .nodes) e
+
+  -- a node past the last reads as a Free one
+  pub past-last : a .nodes ≤ c → freeNode ≡ nodeOf (decode ws) c
+  past-last h = sym (List·getD-eq-default (decode ws .nodes) freeNode {n = c} (omega (arith, many, s .domain .nodeCount)))
+
+  pub node-below : c < a .nodes → c < word ws 2
+  node-below h = omega (arith, many, head-words ws .nodes)
 
 -- of a node as the code has it
 pub held-by : (k : Kind) (p : ℕ) (x y : Node) (r : ℕ) → r ≡ held k (x .state) (x .owner) p → x ≡ y → r ≡ held k (y .state) (y .owner) p

@@ -32,7 +32,7 @@ fn node_questions(words: &[u32], kind: u32, p: ProcessId, c: NodeId) -> u32
     requires { ⌜ Sound (now words) ⌝ }
     ensures { λ r. ⌜ r ≡ held (kindOf kind) (nodeOf (decode (now (words .entry))) (c .0) .state) (nodeOf (decode (now (words .entry))) (c .0) .owner) (p .0) ⌝ }
 {
-    if words[2] <= c.0 {
+    if domain::bounds(words).nodes <= c.0 {
         return kinds::held(kind, 0, 0, p);
     }
     let x = domain::node(words, c);
@@ -44,7 +44,7 @@ fn room(words: &[u32], p: ProcessId) -> u32
     requires { ⌜ Sound (now words) × (p .0 < word (now words) 0) ⌝ }
     ensures { λ r. ⌜ r ≡ cond (ltb (length (processOf (decode (now (words .entry))) (p .0) .buffer)) bufferSize) 0 13 ⌝ }
 {
-    let l = domain::lead(words, p);
+    let l = process::lead(words, p);
     unless(l.stores < 8, 13)
 }
 
@@ -53,7 +53,7 @@ fn some_store(words: &[u32], p: ProcessId) -> u32
     requires { ⌜ Sound (now words) × (p .0 < word (now words) 0) ⌝ }
     ensures { λ r. ⌜ r ≡ cond (not (eqb (length (processOf (decode (now (words .entry))) (p .0) .buffer)) 0)) 0 14 ⌝ }
 {
-    let l = domain::lead(words, p);
+    let l = process::lead(words, p);
     unless(l.stores != 0, 14)
 }
 
@@ -62,7 +62,7 @@ fn checkable(words: &[u32], p: ProcessId, h: HazardId) -> u32
     requires { ⌜ Sound (now words) × (p .0 < word (now words) 0) × (h .0 < word (now words) 1) ⌝ }
     ensures { λ r. ⌜ r ≡ cond (not (eqb (pointer (decode (now (words .entry))) (stepOf (p .0) (h .0)) .assigned) 0)) (cond (eqb (target (decode (now (words .entry))) (stepOf (p .0) (h .0)) .state) Reachable) 0 11) 10 ⌝ }
 {
-    let y = domain::hazard(words, p, h);
+    let y = process::hazard(words, p, h);
     let node = y.assigned;
     if node == 0 {
         return 10;
@@ -76,7 +76,7 @@ fn usable(words: &[u32], p: ProcessId, h: HazardId) -> u32
     requires { ⌜ Sound (now words) × (p .0 < word (now words) 0) × (h .0 < word (now words) 1) ⌝ }
     ensures { λ r. ⌜ r ≡ cond (eqb (hazardOf (processOf (decode (now (words .entry))) (p .0)) (h .0) .validated) 1) 0 12 ⌝ }
 {
-    let y = domain::hazard(words, p, h);
+    let y = process::hazard(words, p, h);
     unless(y.validated == 1, 12)
 }
 
@@ -85,7 +85,7 @@ fn idle(words: &[u32], p: ProcessId) -> u32
     requires { ⌜ Sound (now words) × (p .0 < word (now words) 0) ⌝ }
     ensures { λ r. ⌜ r ≡ cond (unassigned (processOf (decode (now (words .entry))) (p .0))) 0 17 ⌝ }
 {
-    unless(domain::unassigned(words, p), 17)
+    unless(process::unassigned(words, p), 17)
 }
 
 // Questions 15 and 16: can the clock go on, and is every pending store younger than the delay?

@@ -42,7 +42,7 @@ pub fn retire(words: &mut [u32], p: ProcessId, c: NodeId) -> u32
     requires { ⌜ Sound (now words) × (p .0 < word (now words) 0) × (c .0 < word (now words) 2) ⌝ }
     ensures { λ r. ⌜ Does (act Retire (decode (now (words .entry))) (given 8 (p .0) 0 (c .0) 0)) (now (words .exit)) r ⌝ }
 {
-    let l = domain::lead(words, p);
+    let l = process::lead(words, p);
     let clock = domain::clock(words);
     let x = domain::node(words, c);
     domain::set_node(

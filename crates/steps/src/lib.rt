@@ -2,8 +2,6 @@
 use layout::HazardId;
 use layout::NodeId;
 use layout::ProcessId;
-ghost use mathlib.Core.Path.{_≡_};
-ghost use Prim.Native.Nat.{_+_, _≤_};
 ghost use Rattle.model.specs.Kinds.{kindOf, Allocate, Publish, Protect, Check, Use, Clear, Remove, Retire, Drain, Flush, Tick, Manage, ClearPresence};
 ghost use Rattle.model.specs.Machine.{step};
 ghost use Rattle.layout.specs.Encode.{decode};
@@ -39,7 +37,7 @@ fn protect(words: &mut [u32], p: ProcessId, h: HazardId, c: NodeId) -> u32
     requires { ⌜ Ready Protect (now words) (given 3 (p .0) (h .0) (c .0) 0) ⌝ }
     ensures { λ r. ⌜ Acted Protect (now (words .entry)) (given 3 (p .0) (h .0) (c .0) 0) (now (words .exit)) r ⌝ }
 {
-    domain::assign(words, p, h, c.0 + 1);
+    process::assign(words, p, h, c.0 + 1);
     0
 }
 
@@ -47,7 +45,7 @@ fn check(words: &mut [u32], p: ProcessId, h: HazardId) -> u32
     requires { ⌜ Ready Check (now words) (given 4 (p .0) (h .0) 0 0) ⌝ }
     ensures { λ r. ⌜ Acted Check (now (words .entry)) (given 4 (p .0) (h .0) 0 0) (now (words .exit)) r ⌝ }
 {
-    domain::validate(words, p, h);
+    process::validate(words, p, h);
     0
 }
 
@@ -62,7 +60,7 @@ fn clear(words: &mut [u32], p: ProcessId, h: HazardId) -> u32
     requires { ⌜ Ready Clear (now words) (given 6 (p .0) (h .0) 0 0) ⌝ }
     ensures { λ r. ⌜ Acted Clear (now (words .entry)) (given 6 (p .0) (h .0) 0 0) (now (words .exit)) r ⌝ }
 {
-    domain::assign(words, p, h, 0);
+    process::assign(words, p, h, 0);
     0
 }
 
@@ -85,7 +83,7 @@ fn drain(words: &mut [u32], p: ProcessId) -> u32
     requires { ⌜ Ready Drain (now words) (given 9 (p .0) 0 0 0) ⌝ }
     ensures { λ r. ⌜ Acted Drain (now (words .entry)) (given 9 (p .0) 0 0 0) (now (words .exit)) r ⌝ }
 {
-    domain::drain(words, p);
+    process::drain(words, p);
     0
 }
 
@@ -93,7 +91,7 @@ fn flush(words: &mut [u32], p: ProcessId) -> u32
     requires { ⌜ Ready Flush (now words) (given 10 (p .0) 0 0 0) ⌝ }
     ensures { λ r. ⌜ Acted Flush (now (words .entry)) (given 10 (p .0) 0 0 0) (now (words .exit)) r ⌝ }
 {
-    domain::flush(words, p);
+    process::flush(words, p);
     0
 }
 

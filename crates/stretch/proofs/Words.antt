@@ -1,19 +1,20 @@
 -- A process as words and back, and a word of a stretch as a field of its process. Assumes nothing.
 use Prim.Native.Nat.{ℕ, _+_, _*_, _<_, _≤_}
-use mathlib.Core.List.{List, _++_}
+use mathlib.Core.List.{List, [], _++_}
 use mathlib.Core.Path.{_≡_, refl, sym, ap, _∙_}
 use native.Mathlib.Omega.{arith}
 use lib.ListN.{length, drop, length-append, length-replicate, length-drop}
-use lib.Seq.{drop-at, drop-drop, getD-drop}
+use lib.Seq.{getD-drop}
 use Rattle.lists.specs.Tests.{All}
-use Rattle.lists.specs.Rows.{rows, unrows}
-use Rattle.lists.proofs.Rows.{length-rows, length-unrows, unrows-rows}
+use Rattle.lists.specs.Rows.{rows}
+use Rattle.lists.proofs.Rows.{length-rows, length-unrows}
 use Rattle.lists.proofs.RowParts.{unrows-word}
 use Rattle.model.specs.State.{Pending, Hazard, Process, emptyHazard, hazardOf}
 use Rattle.layout.specs.Shape.{word, leadOf, leadAt, leadWords, hazardWords, hazardAt, pendingWords, pendingAt}
-use Rattle.layout.specs.Codecs.{hazardCodec, pendingCodec}
+use Rattle.layout.specs.Codecs.{hazardCodec, shape}
+use Rattle.layout.proofs.Encode.{process-back, process-width}
 use Rattle.layout.specs.Encode.{bufferWords, processWordsBy, processBy, processWords, processAt}
-use Rattle.stretch.specs.Stretch.{Stretch, noStore, storeOf}
+use Rattle.stretch.specs.Stretch.{Stretch}
 
 -- the words of a process before its buffer, with n stores pending
 abbrev pub front : ℕ → Process → List ℕ
@@ -30,7 +31,7 @@ pub width-hazards : (hs : List Hazard) → length (rows hazardWords hs) ≡ leng
 width-hazards hs = length-rows hazardWords 3 emptyHazard hs (λ i l. refl)
 
 pub width-stores : (b : List Pending) → length (rows pendingWords b) ≡ length b * 3
-width-stores b = length-rows pendingWords 3 noStore b (λ i l. refl)
+width-stores b = length-rows pendingWords 3 (pendingAt []) b (λ i l. refl)
 
 pub width-buffer : (b : List Pending) → length b ≤ 8 → length (bufferWords b) ≡ 24
 width-buffer b h = simp (length-append, length-replicate) (omega (arith, width-stores b))
@@ -42,39 +43,20 @@ width-front n x = omega (arith, width-hazards (x .hazards))
 
 pub stores-length : (k : ℕ) (r : List ℕ) → length (processAt k r .buffer) ≡ word r 3
 unfolding processBy
-stores-length k r = length-unrows pendingAt 3 noStore (word r 3) (drop (4 + k * 3) r)
+stores-length k r = length-unrows pendingAt 3 (pendingAt []) (word r 3) (drop (4 + k * 3) r)
 
 pub hazards-length : (k : ℕ) (r : List ℕ) → length (processAt k r .hazards) ≡ k
 unfolding processBy
 hazards-length k r = length-unrows hazardAt 3 emptyHazard k (drop 4 r)
 
 module _ (x : Process) (k : ℕ) (hk : length (x .hazards) ≡ k) where
-  pub process-back : processAt k (processWords x) ≡ x
-  unfolding processBy processWordsBy
-  process-back =
-      let hs : List ℕ = rows hazardWords (x .hazards) in
-      let bs : List ℕ = bufferWords (x .buffer) in
-      let hazards : unrows hazardAt 3 k (hs ++ bs) ≡ x .hazards =
-      rw (← hk) (unrows-rows hazardAt 3 emptyHazard hazardWords (x .hazards) bs (λ i l. refl) (λ i l. refl)) in
-      let rest : drop (4 + k * 3) (processWords x) ≡ bs =
-      sym (drop-drop (k * 3) 4 (processWords x)) ∙ drop-at hs bs (k * 3) (rw (← hk) (width-hazards (x .hazards))) in
-      let buffer : unrows pendingAt 3 (length (x .buffer)) (drop (4 + k * 3) (processWords x)) ≡ x .buffer =
-      rw rest (unrows-rows pendingAt 3 noStore pendingWords (x .buffer) _ (λ i l. refl) (λ i l. refl)) in
-      λ t. record { epoch = x .epoch; calls = x .calls; presence = x .presence; buffer = buffer t; hazards = hazards t }
-
-  pub width-process : length (x .buffer) ≤ 8 → length (processWords x) ≡ 28 + 3 * k
-  width-process room =
-      let n : ℕ = length (x .buffer) in
-      rw front-buffer
-      (omega (arith, length-append (front n x) (bufferWords (x .buffer)), width-front n x, width-buffer (x .buffer) room))
-
   pub stretch-of : (r : List ℕ) → r ≡ processWords x → length (x .buffer) ≤ 8 → (1 ≤ k) × (k ≤ 8) → All (λ e. e .hazard < k) (x .buffer)
       → Stretch k r
   stretch-of r e room few aimed =
-      let back : processAt k r ≡ x = ap (λ (q : List ℕ). processAt k q) e ∙ process-back in
+      let back : processAt k r ≡ x = ap (λ (q : List ℕ). processAt k q) e ∙ process-back shape x k hk room in
       record {
         few = few;
-        long = ap length e ∙ width-process room;
+        long = ap length e ∙ process-width shape x k hk room;
         stores = stores-length k r;
         room = omega (arith, stores-length k r, ap (λ (y : Process). length (y .buffer)) back);
         whole = e ∙ ap processWords (sym back);
@@ -92,16 +74,6 @@ module _ (k : ℕ) (r : List ℕ) where
       let n : k * 3 ≤ length (drop 4 r) = simp length-drop (omega arith) in
       let f : 4 + (h * 3 + j) ≡ a = omega arith in
       unrows-word hazardCodec emptyHazard k h j 0 (drop 4 r) l n m ∙ (getD-drop 4 r (h * 3 + j) 0 ∙ ap (λ (i : ℕ). word r i) f)
-
-  -- word j of pending store e
-  pub store-word : (e j a : ℕ) → 4 + 3 * k + 3 * word r 3 ≤ length r → e < word r 3 → j < 3 → a ≡ 4 + 3 * k + 3 * e + j
-      → word (pendingWords (storeOf (processAt k r) e)) j ≡ word r a
-  unfolding processBy
-  store-word e j a room l m q =
-      let n : word r 3 * 3 ≤ length (drop (4 + k * 3) r) = simp length-drop (omega arith) in
-      let f : 4 + k * 3 + (e * 3 + j) ≡ a = omega arith in
-      unrows-word pendingCodec noStore (word r 3) e j 0 (drop (4 + k * 3) r) l n m
-      ∙ (getD-drop (4 + k * 3) r (e * 3 + j) 0 ∙ ap (λ (i : ℕ). word r i) f)
 
   -- the records that those words make
   pub lead-at : leadAt r ≡ leadOf (processAt k r)

@@ -1,16 +1,18 @@
--- Words of a process written: some of a hazard, and a store after the last. Assumes nothing.
+-- Words of a process written: some of its lead, some of a hazard, and a store after the last. Assumes nothing.
 use Prim.Native.Nat.{ℕ, suc, _+_, _*_, _-_, _<_, _≤_}
 use mathlib.Core.List.{List, [], _∷_, _++_, append-assoc}
 use mathlib.Core.Path.{_≡_, refl, sym, ap, ap₂, _∙_}
 use native.Mathlib.Omega.{arith}
-use lib.ListN.{length, set, replicate, length-append}
+use lib.ListN.{length, set, replicate, length-append, length-set}
 use lib.Seq.{sets}
 use Rattle.lists.specs.Rows.{rows}
 use Rattle.lists.proofs.RowParts.{sets-append-add, sets-append-left, rows-part, rows-append}
-use Rattle.model.specs.State.{Pending, Hazard, Process, emptyHazard, hazardOf, setHazard, withStores}
-use Rattle.layout.specs.Shape.{leadOf, leadWords, hazardWords, pendingWords}
-use Rattle.layout.specs.Encode.{bufferWords, processWordsBy, processWords}
-use Rattle.stretch.proofs.Words.{front, front-buffer, width-front, width-hazards, width-stores}
+use Rattle.model.specs.State.{Pending, Hazard, Process, emptyHazard, hazardOf, setHazard, withStores, withWords}
+use Rattle.model.specs.Hazards.{pending, assigning, validating}
+use Rattle.layout.specs.Shape.{word, leadOf, leadWords, hazardWords, pendingWords}
+use Rattle.layout.specs.Encode.{bufferWords, processWordsBy, processWords, processAt}
+use Rattle.stretch.specs.Stretch.{Stretch}
+use Rattle.stretch.proofs.Words.{front, front-buffer, width-front, width-hazards, width-stores, hazards-length}
 
 -- the words vs of hazard h, from its word j on
 pub hazard-sets : (x : Process) (h j a : ℕ) (vs : List ℕ) (y : Hazard) → h < length (x .hazards) → j + length vs ≤ 3 → a ≡ 4 + 3 * h + j
@@ -39,7 +41,7 @@ buffer-more b e l =
     ∙ (sym (append-assoc bs (pendingWords e) (replicate m 0))
     ∙ ap₂ (λ (q : List ℕ) (f : ℕ). q ++ replicate f 0) (sym (rows-append pendingWords b (e ∷ []))) left))
 
-pub store-added : (x : Process) (e : Pending) (a : ℕ) → length (x .buffer) < 8 → a ≡ 4 + 3 * length (x .hazards) + 3 * length (x .buffer)
+store-added : (x : Process) (e : Pending) (a : ℕ) → length (x .buffer) < 8 → a ≡ 4 + 3 * length (x .hazards) + 3 * length (x .buffer)
     → sets (set (processWords x) 3 (length (x .buffer) + 1)) a (pendingWords e) ≡ processWords (withStores x (x .buffer ++ (e ∷ [])) (x .hazards))
 store-added x e a l f =
     let n : ℕ = length (x .buffer) in
@@ -49,3 +51,37 @@ store-added x e a l f =
     ∙ (sets-append-add (pendingWords e) (front (n + 1) x) (bufferWords (x .buffer)) (n * 3)
     ∙ (ap₂ (λ (i : ℕ) (q : List ℕ). front i x ++ q) m (buffer-more (x .buffer) e l)
     ∙ sym (front-buffer (withStores x (x .buffer ++ (e ∷ [])) (x .hazards)))))
+
+module _ (k : ℕ) (r : List ℕ) (s : Stretch k r) where
+  pub lead-written : (e c p : ℕ) → sets r 0 (e ∷ c ∷ p ∷ []) ≡ processWords (withWords (processAt k r) e c p)
+  unfolding processWordsBy
+  lead-written e c p = ap (λ (ws : List ℕ). sets ws 0 (e ∷ c ∷ p ∷ [])) (s .whole)
+
+  -- the words vs of hazard h, from its word j on
+  pub hazard-written : (h j a : ℕ) (vs : List ℕ) (y : Hazard) → h < k → j + length vs ≤ 3 → a ≡ 4 + 3 * h + j
+      → sets (hazardWords (hazardOf (processAt k r) h)) j vs ≡ hazardWords y
+      → sets r a vs ≡ processWords (withStores (processAt k r) (processAt k r .buffer) (setHazard (processAt k r) h y))
+  hazard-written h j a vs y l m e f =
+      ap (λ (ws : List ℕ). sets ws a vs) (s .whole)
+      ∙ hazard-sets (processAt k r) h j a vs y (omega (arith, hazards-length k r)) m e f
+
+  pub validated : (h a : ℕ) → h < k → a ≡ 4 + 3 * h + 2 → set r a 1 ≡ processWords (validating (processAt k r) h)
+  validated h a l e = hazard-written h 2 a (1 ∷ []) _ l (omega arith) e refl
+
+  -- the node and the store of it, written in this order: hazard, stores, buffer
+  pub assigned : (h v t a b : ℕ) → h < k → word r 3 < 8 → a ≡ 4 + 3 * h → b ≡ 4 + 3 * k + 3 * word r 3
+      → set (set (set (set (set (set r (a + 1) v) (a + 2) 0) 3 (word r 3 + 1)) b h) (b + 1) v) (b + 2) t
+      ≡ processWords (assigning (processAt k r) h v t)
+  assigned h v t a b l m e f =
+      let x : Process = processAt k r in
+      let y : Hazard = record { visible = hazardOf x h .visible; assigned = v; validated = 0 } in
+      let z : Process = withStores x (x .buffer) (setHazard x h y) in
+      let n : length (z .hazards) ≡ k = length-set (x .hazards) h y ∙ hazards-length k r in
+      let a2 : a + 2 ≡ suc (a + 1) = omega arith in
+      let b1 : b + 1 ≡ suc b = omega arith in
+      let b2 : b + 2 ≡ suc (suc b) = omega arith in
+      rw (a2, b1, b2)
+      (ap₂ (λ (ws : List ℕ) (i : ℕ). sets (set ws 3 (i + 1)) b (pendingWords (pending h v t)))
+      (hazard-written h 1 (a + 1) (v ∷ 0 ∷ []) y l (omega arith) (omega arith) refl)
+      (sym (s .stores))
+      ∙ store-added z (pending h v t) b (omega (arith, s .stores)) (omega (arith, s .stores)))

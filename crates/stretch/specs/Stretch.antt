@@ -2,9 +2,8 @@
 use Prim.Native.Nat.{ℕ, _+_, _*_, _<_, _≤_}
 use mathlib.Core.List.{List}
 use mathlib.Core.Path.{_≡_}
-use lib.ListN.{length, getD}
+use lib.ListN.{length}
 use Rattle.lists.specs.Tests.{All}
-use Rattle.model.specs.State.{Pending, Process}
 use Rattle.layout.specs.Shape.{word}
 use Rattle.layout.specs.Encode.{processWords, processAt}
 
@@ -16,11 +15,3 @@ pub record Stretch (k : ℕ) (r : List ℕ) : Type 0 where
   pub room : word r 3 ≤ 8
   pub whole : r ≡ processWords (processAt k r)
   pub aimed : All (λ e. e .hazard < k) (processAt k r .buffer)
-
--- what is read past the last store
-abbrev pub noStore : Pending
-noStore = record { hazard = 0; node = 0; time = 0 }
-
--- pending store e of a process, the oldest being 0
-abbrev pub storeOf : Process → ℕ → Pending
-storeOf x e = getD (x .buffer) e noStore

@@ -1,24 +1,20 @@
 -- What a head in its ranges and the right length give the check of processes and nodes, and what the first tests say of the whole.
 -- Assumes nothing.
 use Prim.Native.Nat.{ℕ, _+_, _*_, _≤_, _<_}
-use mathlib.Core.Bool.{Bool, true, false, not, _&&_, and-false}
+use mathlib.Core.Bool.{Bool, true, false, _&&_, and-false}
 use mathlib.Core.List.{List}
-use mathlib.Core.Path.{_≡_, refl, sym, _∙_}
+use mathlib.Core.Path.{_≡_}
 use native.Mathlib.Omega.{arith}
-use native.Mathlib.Nat.{le-trans, mul-le-mul-left, mul-le-mul-right}
-use borrow.Author.Tests.{leb-true, eq-eqb, ne-eqb, not-true, not-false}
+use borrow.Author.Tests.{leb-true, eq-eqb, ne-eqb}
 use lib.ListN.{length}
 use lib.Dec.{leb}
 use Rattle.lists.proofs.Bools.{both}
 use Rattle.model.specs.Params.{lastClock}
 use Rattle.layout.specs.Shape.{word, nodesStart}
 use Rattle.layout.specs.Codecs.{shape}
+use Rattle.layout.proofs.Room.{small}
 use Rattle.layout.specs.Words.{between, headFits, processesFit, nodesFit, wellFormed}
-use Rattle.wellformed.specs.Limits.{Ready}
-
--- the most words of processes
-pub small : (n k : ℕ) → n ≤ 16 → k ≤ 8 → n * (28 + 3 * k) ≤ 832
-small n k h l = le-trans (mul-le-mul-left n (omega arith)) (mul-le-mul-right 52 h)
+use Rattle.process_check.specs.ProcessLimits.{Ready}
 
 within-ends : (low high n : ℕ) → between low high n ≡ true → (low ≤ n) × (n ≤ high)
 within-ends low high n h = let u = both (leb low n) (leb n high) h in (leb-true low n (u .0), leb-true n high (u .1))

@@ -1,7 +1,1 @@
-pub mod Tests
-pub mod Lanes
-pub mod Within
-pub mod Nodes
-pub mod Tables
-pub mod Processes
 pub mod Head

@@ -1,47 +1,20 @@
--- `domain::nodes_at` meets its contract: the product fits, since the words of all processes are few. Assumes nothing.
+-- `domain::nodes_at` meets its contract: the nodes start after the last process. Assumes nothing.
 use native.Mathlib.Omega.{arith}
-use Rattle.domain.proofs.Head.{rows-fit, nodes-address}
 use borrow.Author.Needs.{needs}
 use Rattle.domain.proofs.nodes_at.Statement.{statement}
 use Rattle.domain.proofs.nodes_at.Tie as tie
 
-shared-slice-read-wide : tie.Need-shared-slice-read-wide
-shared-slice-read-wide c = search needs
+shared-slice-read-process-start : tie.Need-shared-slice-read-process-start
+shared-slice-read-process-start c = search needs
 
-wide-requires : tie.Need-wide-requires
-wide-requires c κs = search needs
+shared-slice-read-process-start-2 : tie.Need-shared-slice-read-process-start-2
+shared-slice-read-process-start-2 c = search needs
 
-shared-slice-read-wide-2 : tie.Need-shared-slice-read-wide-2
-shared-slice-read-wide-2 c = search needs
-
-wide-requires-2 : tie.Need-wide-requires-2
-wide-requires-2 c κs = search needs
-
-mul-result : tie.Need-mul-result
-mul-result c = search needs
-
-add-result : tie.Need-add-result
-add-result c = search needs
-
-mul-result-2 : tie.Need-mul-result-2
-mul-result-2 c = omega (arith, rows-fit (c .before .before .before .before .before .pre .sizes) _ _ (c .wide2 .ensures .0) (c .before .before .wide .ensures .0))
-
-add-result-2 : tie.Need-add-result-2
-add-result-2 c = omega (arith, rows-fit (c .before .before .before .before .before .pre .sizes) _ _ (c .wide2 .ensures .0) (c .before .before .wide .ensures .0))
+process-start-requires : tie.Need-process-start-requires
+process-start-requires c κs = (c .before .before .before .pre .sizes .hazards .1, c .before .before .before .pre .sizes .processes .1)
 
 returns : tie.Need-returns
-returns c = nodes-address (c .before .before .before .before .before .pre .sizes) _ _ (c .wide2 .ensures .0) (c .before .before .wide .ensures .0)
+returns c = (c .process-start .ensures .0, omega (arith, c .process-start .ensures .0, c .before .before .before .before .pre .sizes .long))
 
 pub nodes-at-spec : {M : Type 1} → statement M
-nodes-at-spec =
-    tie.close
-    (tie.spec
-    shared-slice-read-wide
-    wide-requires
-    shared-slice-read-wide-2
-    wide-requires-2
-    mul-result
-    add-result
-    mul-result-2
-    add-result-2
-    returns)
+nodes-at-spec = tie.close (tie.spec shared-slice-read-process-start shared-slice-read-process-start-2 process-start-requires returns)

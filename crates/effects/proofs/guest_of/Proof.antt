@@ -3,7 +3,7 @@ use mathlib.Core.Path.{_≡_, _∙_, ap, sym, refl}
 use Prim.Native.Nat.{_-_}
 use Rattle.model.specs.State.{nodeOf}
 use Rattle.layout.specs.Encode.{decode}
-use Rattle.domain.proofs.Assigned.{claim-assigned, assigned-in}
+use Rattle.process.proofs.Assigned.{claim-assigned, assigned-in}
 use borrow.Author.Needs.{needs}
 use Rattle.effects.proofs.guest_of.Statement.{statement}
 use Rattle.effects.proofs.guest_of.Tie as tie

@@ -2,7 +2,7 @@
 use Rattle.layout.specs.Encode.{decode}
 use Rattle.questions.specs.Own.{stepOf}
 use Rattle.questions.proofs.Answers.{none-assigned, one-assigned}
-use Rattle.domain.proofs.Assigned.{assigned-in}
+use Rattle.process.proofs.Assigned.{assigned-in}
 use borrow.Author.Needs.{needs}
 use Rattle.questions.proofs.checkable.Statement.{statement}
 use Rattle.questions.proofs.checkable.Tie as tie

@@ -1,8 +1,8 @@
--- `assign` meets its contract: two words of a hazard, one store more, and its three words in the first free place. Assumes nothing.
+-- `stretch::assign` meets its contract: two words of a hazard, one store more, and its three words in the first free place. Assumes nothing.
 use native.Mathlib.Omega.{arith}
 use lib.ListN.{length-set}
 use borrow.Author.Needs.{needs}
-use Rattle.stretch.proofs.Changes.{assigned}
+use Rattle.stretch.proofs.Writes.{assigned}
 use Rattle.stretch.proofs.assign.Statement.{statement}
 use Rattle.stretch.proofs.assign.Tie as tie
 

@@ -1,4 +1,4 @@
--- `hazard` meets its contract: the three words of a hazard. Assumes nothing.
+-- `stretch::hazard` meets its contract: the three words of a hazard. Assumes nothing.
 use native.Mathlib.Omega.{arith}
 use borrow.Author.Needs.{needs}
 use Rattle.stretch.proofs.Words.{hazard-at}

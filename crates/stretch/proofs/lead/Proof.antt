@@ -1,4 +1,4 @@
--- `lead` meets its contract: the four words, and the length of a buffer is the fourth. Assumes nothing.
+-- `stretch::lead` meets its contract: the four words, and the length of a buffer is the fourth. Assumes nothing.
 use borrow.Author.Needs.{needs}
 use Rattle.stretch.proofs.Words.{lead-at}
 use Rattle.stretch.proofs.lead.Statement.{statement}

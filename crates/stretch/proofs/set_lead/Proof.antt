@@ -1,8 +1,8 @@
--- `set_lead` meets its contract: three words before the fourth. Assumes nothing.
+-- `stretch::set_lead` meets its contract: three words before the fourth. Assumes nothing.
 use native.Mathlib.Omega.{arith}
 use lib.ListN.{length-set}
 use borrow.Author.Needs.{needs}
-use Rattle.stretch.proofs.Changes.{lead-written}
+use Rattle.stretch.proofs.Writes.{lead-written}
 use Rattle.stretch.proofs.set_lead.Statement.{statement}
 use Rattle.stretch.proofs.set_lead.Tie as tie
 

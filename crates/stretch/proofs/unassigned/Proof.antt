@@ -1,4 +1,4 @@
--- `unassigned` meets its contract. The invariant: ok says whether the first h hazards are unassigned. The measure: the hazards that are left.
+-- `stretch::unassigned` meets its contract. The invariant: ok says whether the first h hazards are unassigned. The measure: the hazards that are left.
 -- Assumes nothing.
 use Prim.Native.Nat.{ℕ, _-_, _≤_}
 use mathlib.Core.Path.{refl, sym, ap}

@@ -1,7 +1,7 @@
--- `validate` meets its contract: the last word of a hazard. Assumes nothing.
+-- `stretch::validate` meets its contract: the last word of a hazard. Assumes nothing.
 use native.Mathlib.Omega.{arith}
 use borrow.Author.Needs.{needs}
-use Rattle.stretch.proofs.Changes.{validated}
+use Rattle.stretch.proofs.Writes.{validated}
 use Rattle.stretch.proofs.validate.Statement.{statement}
 use Rattle.stretch.proofs.validate.Tie as tie
 

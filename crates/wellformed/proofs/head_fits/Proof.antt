@@ -1,93 +1,57 @@
+-- `wellformed::head_fits` meets its contract: it is the definition, test by test. Assumes nothing.
 use Rattle.layout.specs.Words.{headFits}
-use native.Mathlib.Omega.{arith}
 use borrow.Author.Needs.{needs}
 use Rattle.wellformed.proofs.head_fits.Statement.{statement}
 use Rattle.wellformed.proofs.head_fits.Tie as tie
-use Rattle.wellformed.proofs.head_fits.Reads as reads
-use Rattle.wellformed.proofs.head_fits.Lts as lts
 
--- src/lib.rt:188:12
 shared-slice-read-result : tie.Need-shared-slice-read-result
 shared-slice-read-result c = search needs
 
--- src/lib.rt:188:25
 shared-slice-read-result-2 : tie.Need-shared-slice-read-result-2
 shared-slice-read-result-2 c = search needs
 
--- src/lib.rt:189:19
 shared-slice-read-result-3 : tie.Need-shared-slice-read-result-3
 shared-slice-read-result-3 c = search needs
 
--- src/lib.rt:189:32
 shared-slice-read-result-4 : tie.Need-shared-slice-read-result-4
 shared-slice-read-result-4 c = search needs
 
--- src/lib.rt:190:19
 shared-slice-read-result-5 : tie.Need-shared-slice-read-result-5
 shared-slice-read-result-5 c = search needs
 
--- src/lib.rt:190:32
 shared-slice-read-result-6 : tie.Need-shared-slice-read-result-6
 shared-slice-read-result-6 c = search needs
 
--- src/lib.rt:191:19
 shared-slice-read-result-7 : tie.Need-shared-slice-read-result-7
 shared-slice-read-result-7 c = search needs
 
--- src/lib.rt:191:32
 shared-slice-read-result-8 : tie.Need-shared-slice-read-result-8
 shared-slice-read-result-8 c = search needs
 
--- src/lib.rt:192:19
 shared-slice-read-result-9 : tie.Need-shared-slice-read-result-9
 shared-slice-read-result-9 c = search needs
 
--- src/lib.rt:192:32
 shared-slice-read-result-10 : tie.Need-shared-slice-read-result-10
 shared-slice-read-result-10 c = search needs
 
--- src/lib.rt:193:19
 shared-slice-read-result-11 : tie.Need-shared-slice-read-result-11
 shared-slice-read-result-11 c = search needs
 
--- src/lib.rt:193:32
 shared-slice-read-result-12 : tie.Need-shared-slice-read-result-12
 shared-slice-read-result-12 c = search needs
 
--- src/lib.rt:194:13
 shared-slice-read-result-13 : tie.Need-shared-slice-read-result-13
 shared-slice-read-result-13 c = search needs
 
--- src/lib.rt:195:13
 shared-slice-read-result-14 : tie.Need-shared-slice-read-result-14
 shared-slice-read-result-14 c = search needs
 
--- src/lib.rt:196:12
 shared-slice-read-result-15 : tie.Need-shared-slice-read-result-15
 shared-slice-read-result-15 c = search needs
 
--- src/lib.rt:184:1
 returns : tie.Need-returns
 unfolding headFits
 returns c = search needs
 
 pub head-fits-spec : {M : Type 1} → statement M
-head-fits-spec =
-    tie.close
-    (tie.spec
-    shared-slice-read-result
-    shared-slice-read-result-2
-    shared-slice-read-result-3
-    shared-slice-read-result-4
-    shared-slice-read-result-5
-    shared-slice-read-result-6
-    shared-slice-read-result-7
-    shared-slice-read-result-8
-    shared-slice-read-result-9
-    shared-slice-read-result-10
-    shared-slice-read-result-11
-    shared-slice-read-result-12
-    shared-slice-read-result-13
-    shared-slice-read-result-14
-    shared-slice-read-result-15
-    returns)
+head-fits-spec = tie.close (tie.spec shared-slice-read-result shared-slice-read-result-2 shared-slice-read-result-3 shared-slice-read-result-4 shared-slice-read-result-5 shared-slice-read-result-6 shared-slice-read-result-7 shared-slice-read-result-8 shared-slice-read-result-9 shared-slice-read-result-10 shared-slice-read-result-11 shared-slice-read-result-12 shared-slice-read-result-13 shared-slice-read-result-14 shared-slice-read-result-15 returns)

@@ -1,0 +1,67 @@
+// Counts over the nodes' part of a domain's words (crate `nodes`): Reachable nodes, and the Retired nodes of a process.
+use layout::NodeId;
+use layout::ProcessId;
+ghost use mathlib.Core.Path.{_≡_};
+ghost use mathlib.Core.Bool.{cond};
+ghost use Prim.Native.Nat.{_+_, _*_, _≤_, _<_};
+ghost use lib.Dec.{eqb};
+ghost use Rattle.lists.specs.Tests.{count};
+ghost use Rattle.model.specs.State.{Reachable};
+ghost use Rattle.model.specs.Retire.{retiredBy};
+ghost use Rattle.nodes.specs.Nodes.{nodesIn, nodeIn, Part};
+
+// The states that are counted.
+const REACHABLE: u32 = 2;
+
+const RETIRED: u32 = 4;
+
+// 1 for a test that is passed.
+fn one_if(b: bool) -> u32
+    ensures { λ r. ⌜ (r ≡ cond b 1 0) × (r ≤ 1) ⌝ }
+{
+    if b { 1 } else { 0 }
+}
+
+// How many nodes are Reachable.
+pub fn reachable_count(nodes: &[u32], m: u32) -> u32
+    requires { ⌜ Part m (now nodes) ⌝ }
+    ensures { λ r. ⌜ r ≡ count (λ n. eqb (n .state) Reachable) (nodesIn m (now (nodes .entry))) ⌝ }
+{
+    let mut reachable: u32 = 0;
+    let mut i: u32 = 0;
+    while i < m {
+        reachable += one_if(nodes::state_of(nodes, m, NodeId(i)) == REACHABLE);
+        i += 1;
+    }
+    reachable
+}
+
+// Two words as one number.
+fn pair(low: u32, high: u32) -> usize
+    ensures { λ r. ⌜ (r ≡ low + high * 4294967296) × (low < 4294967296) ⌝ }
+{
+    layout::wide(low) + layout::wide(high) * 4294967296
+}
+
+// Is node c a Retired node of p? State and owner are compared at once.
+pub fn retired_by(nodes: &[u32], m: u32, c: NodeId, p: ProcessId) -> bool
+    requires { ⌜ Part m (now nodes) × (c .0 < m) ⌝ }
+    ensures { λ r. ⌜ r ≡ retiredBy (p .0) (nodeIn m (now (nodes .entry)) (c .0)) ⌝ }
+{
+    let at = nodes::offset(m, c);
+    pair(nodes::state_of(nodes, m, c), nodes[at + 1]) == pair(RETIRED, p.0)
+}
+
+// How many Retired nodes p has.
+pub fn retired_count(nodes: &[u32], m: u32, p: ProcessId) -> u32
+    requires { ⌜ Part m (now nodes) ⌝ }
+    ensures { λ r. ⌜ r ≡ count (retiredBy (p .0)) (nodesIn m (now (nodes .entry))) ⌝ }
+{
+    let mut retired: u32 = 0;
+    let mut i: u32 = 0;
+    while i < m {
+        retired += one_if(retired_by(nodes, m, NodeId(i), p));
+        i += 1;
+    }
+    retired
+}

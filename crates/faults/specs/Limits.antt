@@ -1,0 +1,20 @@
+-- Words at most their limits, and no fault found. Assumes nothing.
+use Prim.Native.Nat.{ℕ, _+_}
+use mathlib.Core.Bool.{Bool, not, _&&_}
+use mathlib.Core.List.{List}
+use lib.Dec.{leb}
+use Rattle.lists.specs.Upto.{allUpto}
+use Rattle.layout.specs.Shape.{word}
+use Rattle.faults.specs.declared.Faults.{Faults}
+
+-- nothing was found amiss
+unfoldable pub none : Faults → Bool
+none f = not (f .first) && (not (f .second) && (not (f .third) && (not (f .fourth) && not (f .other))))
+
+-- count words from place a on, each at most the limit at its place, limits from place b on
+unfoldable pub within : List ℕ → ℕ → List ℕ → ℕ → ℕ → Bool
+within ws a limits b count = allUpto (λ j. leb (word ws (a + j)) (word limits (b + j))) count
+
+-- the largest number of a word, a limit that no word is over
+abbrev pub anyWord : ℕ
+anyWord = 4294967295

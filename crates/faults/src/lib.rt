@@ -1,0 +1,82 @@
+// Words against limits, four at a time and without a branch, so that the compiler makes vectors of it.
+ghost use mathlib.Core.Path.{_≡_};
+ghost use mathlib.Core.Bool.{true, not, _&&_};
+ghost use Prim.Native.Nat.{_+_, _*_, _≤_};
+ghost use lib.ListN.{length};
+ghost use Rattle.faults.specs.Limits.{none, within};
+
+// Whether a word was over its limit, by the word's place in its piece of four, and whether anything else was amiss.
+pub struct Faults {
+    pub first: bool,
+    pub second: bool,
+    pub third: bool,
+    pub fourth: bool,
+    pub other: bool,
+}
+
+// No fault yet.
+pub fn no_faults() -> Faults
+    ensures { λ r. ⌜ none r ≡ true ⌝ }
+{
+    Faults {
+        first: false,
+        second: false,
+        third: false,
+        fourth: false,
+        other: false,
+    }
+}
+
+// Whether there is no fault.
+pub fn is_clean(faults: Faults) -> bool
+    ensures { λ r. ⌜ r ≡ none faults ⌝ }
+{
+    !faults.first & (!faults.second & (!faults.third & (!faults.fourth & !faults.other)))
+}
+
+// The faults and one more, if it is one.
+pub fn noted(faults: Faults, fault: bool) -> Faults
+    ensures { λ r. ⌜ none r ≡ (none faults && not fault) ⌝ }
+{
+    Faults {
+        first: faults.first,
+        second: faults.second,
+        third: faults.third,
+        fourth: faults.fourth,
+        other: faults.other | fault,
+    }
+}
+
+// Four words against four limits.
+pub fn piece(faults: Faults, words: &[u32], at: usize, limits: &[u32], from: usize) -> Faults
+    requires { ⌜ (at + 4 ≤ length (now words)) × (from + 4 ≤ length (now limits)) ⌝ }
+    ensures { λ r. ⌜ none r ≡ (none faults && within (now (words .entry)) at (now (limits .entry)) from 4) ⌝ }
+{
+    Faults {
+        first: faults.first | (words[at] > limits[from]),
+        second: faults.second | (words[at + 1] > limits[from + 1]),
+        third: faults.third | (words[at + 2] > limits[from + 2]),
+        fourth: faults.fourth | (words[at + 3] > limits[from + 3]),
+        other: faults.other,
+    }
+}
+
+// So many pieces of words against as many of limits.
+pub fn pieces(
+    mut faults: Faults,
+    words: &[u32],
+    at: usize,
+    limits: &[u32],
+    from: usize,
+    count: usize,
+) -> Faults
+    requires { ⌜ (at + 4 * count ≤ length (now words)) × (from + 4 * count ≤ length (now limits)) ⌝ }
+    ensures { λ r. ⌜ none r ≡ (none faults && within (now (words .entry)) at (now (limits .entry)) from (4 * count)) ⌝ }
+{
+    let mut i = 0;
+    while i < count {
+        faults = piece(faults, words, at + 4 * i, limits, from + 4 * i);
+        i += 1;
+    }
+    faults
+}

@@ -1,0 +1,2 @@
+pub mod Processes
+pub mod Assigned

@@ -1,0 +1,175 @@
+-- A process within its limits is one that fits. Assumes nothing.
+use Prim.Native.Nat.{ℕ, zero, suc, _+_, _-_, _*_, _%_, _<_, _≤_}
+use mathlib.Core.Bool.{Bool, true, false, not, _&&_, cond, and-assoc, and-comm, Bool·not-not}
+use mathlib.Core.List.{List}
+use mathlib.Core.Path.{_≡_, refl, sym, _∙_, ap}
+use native.Mathlib.Omega.{arith}
+use native.Mathlib.Nat.{add-zero, add-assoc, mul-le-mul-right}
+use lib.ListN.{length}
+use borrow.Author.Tests.{le-leb, lt-leb, leb-true, ltb-true, ltb-false}
+use lib.Dec.{leb, ltb, eqb, leb·zero, eqb·suc-zero}
+use Rattle.lists.specs.Tests.{implies}
+use Rattle.lists.specs.Upto.{allUpto}
+use Rattle.lists.proofs.Upto.{all-ext, all-more}
+use Rattle.lists.proofs.UptoParts.{all-past, all-threes, all-both}
+use Rattle.layout.specs.Shape.{word, processStart}
+use Rattle.layout.specs.Codecs.{shape}
+use Rattle.layout.specs.Words.{hazardFits, storeFits, processFits, processesFit}
+use Rattle.faults.specs.Limits.{within, anyWord}
+use Rattle.process_check.specs.ProcessLimits.{leadLimits, sliding, backedAt, processWithin, Ready}
+use Rattle.faults.proofs.Tests.{below, only-zero}
+use Rattle.process_check.proofs.Tables.{slid, slid-past}
+
+-- what the four looks at a process leave
+pub process-none : (ws lead hazards stores : List ℕ) (k a i : ℕ) (b v w x y z : Bool) → b ≡ backedAt ws (a + 4) k → w ≡ (v && not (not b))
+    → x ≡ (w && within ws a lead 0 4) → y ≡ (x && within ws (a + 4) hazards (24 - 3 * k) 24) → i ≡ word ws (a + 3) % 9
+    → z ≡ (y && within ws (a + 4 + 3 * k) stores (24 - 3 * i) 24) → z ≡ (v && processWithin lead hazards stores k ws a)
+unfolding processWithin
+process-none ws lead hazards stores k a i b v w x y z hb hw hx hy hi hz = rw (hz, hi, hy, hx, hw, hb) (simp (Bool·not-not, and-assoc))
+
+-- validated at most 1 and at most assigned: 1 only where one is assigned
+backed-fits : (d s : ℕ) → (leb d 1 && leb d s) ≡ (leb d 1 && implies (eqb d 1) (not (eqb s 0)))
+backed-fits zero s = leb·zero s
+backed-fits (suc zero) zero = refl
+backed-fits (suc zero) (suc s) = rw (le-leb 1 (suc s) (omega arith), eqb·suc-zero s)
+backed-fits (suc (suc d)) s = rw (lt-leb (suc (suc d)) 1 (omega arith))
+
+module _ (ws : List ℕ) (words : (j : ℕ) → word ws j ≤ anyWord) (k m : ℕ) (few : k ≤ 8) where
+  -- the word j of the hazards from place a on within its limit
+  abbrev inHazards : ℕ → ℕ → Bool
+  inHazards a j = leb (word ws (a + j)) (word (sliding m m 1 anyWord) (24 - 3 * k + j))
+
+  hazard-fits : (a h : ℕ) → h < k
+      → ((inHazards a (3 * h) && (inHazards a (3 * h + 1) && inHazards a (3 * h + 2)))
+      && leb (word ws (a + 3 * h + 2)) (word ws (a + 3 * h + 1)))
+      ≡ hazardFits m ws (a + 3 * h)
+  unfolding hazardFits
+  hazard-fits a h l =
+      rw (
+        slid m m 1 anyWord k few (3 * h) h 0 (omega arith) l (omega arith),
+        slid m m 1 anyWord k few (3 * h + 1) h 1 (omega arith) l (omega arith),
+        slid m m 1 anyWord k few (3 * h + 2) h 2 (omega arith) l (omega arith),
+        ← add-assoc a (3 * h) 1,
+        ← add-assoc a (3 * h) 2,
+      )
+      (simp and-assoc (rw (backed-fits (word ws (a + 3 * h + 2)) (word ws (a + 3 * h + 1)))))
+
+  hazards-fit : (a : ℕ) → (within ws a (sliding m m 1 anyWord) (24 - 3 * k) 24 && backedAt ws a k)
+      ≡ allUpto (λ h. hazardFits m ws (a + 3 * h)) k
+  unfolding within backedAt
+  hazards-fit a =
+      let e : 24 ≡ 3 * k + (24 - 3 * k) = omega arith in
+      let past = all-past (inHazards a) (3 * k) (24 - 3 * k)
+      (λ i l u. rw (slid-past m m 1 anyWord k few i l (omega arith)) (le-leb (word ws (a + i)) anyWord (words (a + i)))) in
+      let f : ℕ → Bool = λ h. inHazards a (3 * h) && (inHazards a (3 * h + 1) && inHazards a (3 * h + 2)) in
+      let g : ℕ → Bool = λ h. leb (word ws (a + 3 * h + 2)) (word ws (a + 3 * h + 1)) in
+      rw (ap (allUpto (inHazards a)) e ∙ past ∙ all-threes (inHazards a) k, all-both f g k)
+      (all-ext (λ h. f h && g h) (λ h. hazardFits m ws (a + 3 * h)) k (hazard-fits a))
+
+module _ (ws : List ℕ) (s k m clock : ℕ) (some' : 1 ≤ k) (few : s ≤ 8) where
+  -- the word j of the buffer from place a on within its limit
+  abbrev inBuffer : ℕ → ℕ → Bool
+  inBuffer a j = leb (word ws (a + j)) (word (sliding (k - 1) m clock 0) (24 - 3 * s + j))
+
+  store-fits : (a e : ℕ) → e < 8 → (inBuffer a (3 * e) && (inBuffer a (3 * e + 1) && inBuffer a (3 * e + 2))) ≡ storeFits s k m clock ws (a + 3 * e) e
+  unfolding storeFits
+  store-fits a e l = go (ltb e s) refl
+    where
+      go : (b : Bool) → ltb e s ≡ b
+          → (inBuffer a (3 * e) && (inBuffer a (3 * e + 1) && inBuffer a (3 * e + 2)))
+          ≡ cond b
+          (ltb (word ws (a + 3 * e)) k && (leb (word ws (a + 3 * e + 1)) m && leb (word ws (a + 3 * e + 2)) clock))
+          (eqb (word ws (a + 3 * e)) 0 && (eqb (word ws (a + 3 * e + 1)) 0 && eqb (word ws (a + 3 * e + 2)) 0))
+      go true h =
+          let i : e < s = ltb-true e s h in
+          rw (
+            slid (k - 1) m clock 0 s few (3 * e) e 0 (omega arith) i (omega arith),
+            slid (k - 1) m clock 0 s few (3 * e + 1) e 1 (omega arith) i (omega arith),
+            slid (k - 1) m clock 0 s few (3 * e + 2) e 2 (omega arith) i (omega arith),
+            ← add-assoc a (3 * e) 1,
+            ← add-assoc a (3 * e) 2,
+            below (word ws (a + 3 * e)) k some',
+          )
+      go false h =
+          let i : s ≤ e = ltb-false e s h in
+          rw (
+            slid-past (k - 1) m clock 0 s few (3 * e) (omega arith) (omega arith),
+            slid-past (k - 1) m clock 0 s few (3 * e + 1) (omega arith) (omega arith),
+            slid-past (k - 1) m clock 0 s few (3 * e + 2) (omega arith) (omega arith),
+            ← add-assoc a (3 * e) 1,
+            ← add-assoc a (3 * e) 2,
+          )
+          (simp only-zero)
+
+  stores-fit : (a : ℕ) → within ws a (sliding (k - 1) m clock 0) (24 - 3 * (s % 9)) 24 ≡ allUpto (λ e. storeFits s k m clock ws (a + 3 * e) e) 8
+  unfolding within
+  stores-fit a =
+      let z : s % 9 ≡ s = omega arith in
+      rw (z, all-threes (inBuffer a) 8)
+      (all-ext
+      (λ e. inBuffer a (3 * e) && (inBuffer a (3 * e + 1) && inBuffer a (3 * e + 2)))
+      (λ e. storeFits s k m clock ws (a + 3 * e) e)
+      8
+      (store-fits a))
+
+joined : (x z : Bool) {y u v : Bool} → (x && z) ≡ u → y ≡ v → (x && (y && z)) ≡ (u && v)
+joined x z {y} h k = rw (and-comm y z, ← h, ← k) (sym (and-assoc x z y))
+
+module _ (ws : List ℕ) (words : (j : ℕ) → word ws j ≤ anyWord) (k m q clock a : ℕ) (some' : 1 ≤ k) (few : k ≤ 8) (quiescence : 1 ≤ q) where
+  lead-fits : within ws a (leadLimits (q - 1)) 0 4
+      ≡ (leb (word ws a) 2 && (ltb (word ws (a + 1)) q && (leb (word ws (a + 2)) 1 && leb (word ws (a + 3)) 8)))
+  unfolding within allUpto
+  lead-fits = rw (add-zero a, below (word ws (a + 1)) q quiescence) (simp and-assoc)
+
+  -- more than eight stores fit no buffer, whatever stands in it
+  rest-fits : (b : Bool) → leb (word ws (a + 3)) 8 ≡ b
+      → (b
+      && (within ws (a + 4) (sliding m m 1 anyWord) (24 - 3 * k) 24
+      && (within ws (a + (4 + 3 * k)) (sliding (k - 1) m clock 0) (24 - 3 * (word ws (a + 3) % 9)) 24 && backedAt ws (a + 4) k)))
+      ≡ (b
+      && (allUpto (λ h. hazardFits m ws (a + 4 + 3 * h)) k
+      && allUpto (λ e. storeFits (word ws (a + 3)) k m clock ws (a + (4 + 3 * k) + 3 * e) e) 8))
+  rest-fits false e = refl
+  rest-fits true e =
+      joined
+      (within ws (a + 4) (sliding m m 1 anyWord) (24 - 3 * k) 24)
+      (backedAt ws (a + 4) k)
+      (hazards-fit ws words k m few (a + 4))
+      (stores-fit ws (word ws (a + 3)) k m clock some' (leb-true (word ws (a + 3)) 8 e) (a + (4 + 3 * k)))
+
+  pub process-fits : processWithin (leadLimits (q - 1)) (sliding m m 1 anyWord) (sliding (k - 1) m clock 0) k ws a ≡ processFits k m q clock ws a
+  unfolding processWithin processFits
+  process-fits =
+      let late : Bool = within ws (a + 4) (sliding m m 1 anyWord) (24 - 3 * k) 24
+      && within ws (a + 4 + 3 * k) (sliding (k - 1) m clock 0) (24 - 3 * (word ws (a + 3) % 9)) 24 in
+      rw (
+        and-comm (backedAt ws (a + 4) k) (within ws a (leadLimits (q - 1)) 0 4 && late),
+        lead-fits,
+        add-assoc a 4 (3 * k),
+        ← rest-fits (leb (word ws (a + 3)) 8) refl,
+      )
+      (simp and-assoc)
+
+-- a turn of the loop over the processes, and its end
+abbrev pub fits : List ℕ → ℕ → Bool
+fits ws p = processFits (word ws 1) (word ws 2) (word ws 4) (word ws 6) ws (processStart shape (word ws 1) p)
+
+pub process-turn : (ws : List ℕ) → ((j : ℕ) → word ws j ≤ anyWord) → Ready ws → (lead hazards stores : List ℕ) (k at p : ℕ) (x y : Bool)
+    → k ≡ word ws 1 → lead ≡ leadLimits (word ws 4 - 1) → hazards ≡ sliding (word ws 2) (word ws 2) 1 anyWord
+    → stores ≡ sliding (word ws 1 - 1) (word ws 2) (word ws 6) 0 → at ≡ processStart shape (word ws 1) p → x ≡ allUpto (fits ws) p
+    → y ≡ (x && processWithin lead hazards stores k ws at) → y ≡ allUpto (fits ws) (p + 1)
+process-turn ws words ready lead hazards stores k at p x y ek el eh es ea hx hy =
+    let a : ℕ = processStart shape (word ws 1) p in
+    let h : 1 ≤ word ws 1 = ready .sizes .hazards .0 in
+    let l : word ws 1 ≤ 8 = ready .sizes .hazards .1 in
+    rw (hy, ek, el, eh, es, ea, process-fits ws words (word ws 1) (word ws 2) (word ws 4) (word ws 6) a h l (ready .quiescence))
+    (all-more (fits ws) p x hx)
+
+pub processes-end : (ws : List ℕ) (p : ℕ) (x y : Bool) → p ≡ word ws 0 → x ≡ allUpto (fits ws) p → y ≡ x → y ≡ processesFit ws
+processes-end ws p x y e hx hy = rw (hy, hx, e)
+
+-- the words of a further process are there
+pub process-room : (ws : List ℕ) (k p at : ℕ) → Ready ws → k ≡ word ws 1 → p < word ws 0 → at ≡ processStart shape (word ws 1) p
+    → at + (28 + 3 * k) ≤ length ws
+process-room ws k p at ready ek h e =
+    let l : suc p * word ws 1 ≤ word ws 0 * word ws 1 = mul-le-mul-right (word ws 1) h in omega (arith, ready .sizes .long)

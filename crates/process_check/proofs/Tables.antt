@@ -1,0 +1,34 @@
+-- What stands at a place of a sliding table of limits. Assumes nothing.
+use Prim.Native.Nat.{ℕ, zero, suc, _+_, _-_, _*_, _<_, _≤_}
+use mathlib.Core.List.{List, []}
+use mathlib.Core.Path.{_≡_, refl}
+use native.Mathlib.Omega.{arith}
+use lib.ListN.{replicate, getD-replicate}
+use Rattle.layout.specs.Shape.{word}
+use Rattle.process_check.specs.ProcessLimits.{threes, sliding}
+
+module _ (a b c : ℕ) (others : List ℕ) where
+  threes-at : (n i j : ℕ) → i < n → j < 3 → word (threes a b c n others) (3 * i + j) ≡ word (threes a b c 1 []) j
+  threes-at zero i j h k = absurd (omega arith)
+  threes-at (suc n) zero zero h k = refl
+  threes-at (suc n) zero (suc zero) h k = refl
+  threes-at (suc n) zero (suc (suc zero)) h k = refl
+  threes-at (suc n) zero (suc (suc (suc j))) h k = absurd (omega arith)
+  threes-at (suc n) (suc i) j h k =
+      let e : 3 * suc i + j ≡ suc (suc (suc (3 * i + j))) = omega arith in rw e (threes-at n i j (omega arith) k)
+
+  threes-past : (n j : ℕ) → word (threes a b c n others) (3 * n + j) ≡ word others j
+  threes-past zero j = let e : 3 * 0 + j ≡ j = omega arith in rw e
+  threes-past (suc n) j = let e : 3 * suc n + j ≡ suc (suc (suc (3 * n + j))) = omega arith in rw e (threes-past n j)
+
+-- read from 24 - 3 * n on: the three limits for n times three places, the other one for the rest of 24
+module _ (a b c rest n : ℕ) (few : n ≤ 8) where
+  pub slid : (x i j : ℕ) → x ≡ 3 * i + j → i < n → j < 3 → word (sliding a b c rest) (24 - 3 * n + x) ≡ word (threes a b c 1 []) j
+  slid x i j q h k =
+      let e : 24 - 3 * n + x ≡ 3 * (8 - n + i) + j = omega arith in
+      rw e (threes-at a b c (replicate 24 rest) 8 (8 - n + i) j (omega arith) k)
+
+  pub slid-past : (i : ℕ) → 3 * n ≤ i → i < 24 → word (sliding a b c rest) (24 - 3 * n + i) ≡ rest
+  slid-past i h k =
+      let e : 24 - 3 * n + i ≡ 3 * 8 + (i - 3 * n) = omega arith in
+      rw (e, threes-past a b c (replicate 24 rest) 8 (i - 3 * n)) (getD-replicate 24 (i - 3 * n) rest 0 (omega arith))

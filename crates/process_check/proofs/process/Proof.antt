@@ -1,0 +1,66 @@
+-- `process_check::process` meets its contract: four looks at its words, each of which adds its faults. Assumes nothing.
+use Rattle.faults.specs.Limits.{none}
+use Rattle.process_check.proofs.Processes.{process-none}
+use borrow.Author.Needs.{needs}
+use Rattle.process_check.proofs.process.Statement.{statement}
+use Rattle.process_check.proofs.process.Tie as tie
+
+add-backed : tie.Need-add-backed
+add-backed c = search needs
+
+backed-requires : tie.Need-backed-requires
+backed-requires c κs = search needs
+
+noted-requires : tie.Need-noted-requires
+noted-requires c κs = search needs
+
+pieces-requires : tie.Need-pieces-requires
+pieces-requires c κs = search needs
+
+add-pieces : tie.Need-add-pieces
+add-pieces c = search needs
+
+mul-pieces : tie.Need-mul-pieces
+mul-pieces c = search needs
+
+sub-pieces : tie.Need-sub-pieces
+sub-pieces c = search needs
+
+pieces-requires-2 : tie.Need-pieces-requires-2
+pieces-requires-2 c κs = search needs
+
+add-pieces-2 : tie.Need-add-pieces-2
+add-pieces-2 c = search needs
+
+mul-pieces-2 : tie.Need-mul-pieces-2
+mul-pieces-2 c = search needs
+
+add-pieces-3 : tie.Need-add-pieces-3
+add-pieces-3 c = search needs
+
+add-wide : tie.Need-add-wide
+add-wide c = search needs
+
+mul-wide : tie.Need-mul-wide
+mul-wide c = search needs
+
+shared-slice-read-wide : tie.Need-shared-slice-read-wide
+shared-slice-read-wide c = search needs
+
+wide-requires : tie.Need-wide-requires
+wide-requires c κs = search needs
+
+mul-pieces-3 : tie.Need-mul-pieces-3
+mul-pieces-3 c = search needs
+
+sub-pieces-2 : tie.Need-sub-pieces-2
+sub-pieces-2 c = search needs
+
+pieces-requires-3 : tie.Need-pieces-requires-3
+pieces-requires-3 c κs = search needs
+
+returns : tie.Need-returns
+returns c = process-none _ _ _ _ _ _ _ _ (none (c .before .before .before .before .before .before .before .before .before .before .before .args .faults)) _ _ _ _ (c .before .before .before .before .before .before .backed .ensures) (c .before .before .before .before .before .noted .ensures) (c .before .before .before .before .pieces .ensures) (c .before .before .before .pieces2 .ensures) (c .before .wide .ensures .0) (c .pieces3 .ensures)
+
+pub process-spec : {M : Type 1} → statement M
+process-spec = tie.close (tie.spec add-backed backed-requires noted-requires pieces-requires add-pieces mul-pieces sub-pieces pieces-requires-2 add-pieces-2 mul-pieces-2 add-pieces-3 add-wide mul-wide shared-slice-read-wide wide-requires mul-pieces-3 sub-pieces-2 pieces-requires-3 returns)

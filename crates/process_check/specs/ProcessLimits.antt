@@ -1,0 +1,40 @@
+-- A process that fits, as the code looks at it: each word at most a limit that goes by its place. Assumes nothing.
+use Prim.Native.Nat.{ℕ, zero, suc, _+_, _-_, _*_, _%_, _≤_}
+use mathlib.Core.Bool.{Bool, _&&_}
+use mathlib.Core.List.{List, [], _∷_}
+use lib.ListN.{replicate}
+use lib.Dec.{leb}
+use Rattle.lists.specs.Upto.{allUpto}
+use Rattle.layout.specs.Shape.{word}
+use Rattle.layout.specs.Sound.{Sizes}
+use Rattle.faults.specs.Limits.{within}
+
+-- epoch, calls, presence and stores of a process
+abbrev pub leadLimits : ℕ → List ℕ
+leadLimits last = 2 ∷ last ∷ 1 ∷ 8 ∷ []
+
+-- three limits over and over, then others
+abbrev pub threes : ℕ → ℕ → ℕ → ℕ → List ℕ → List ℕ
+threes a b c zero others = others
+threes a b c (suc n) others = a ∷ b ∷ c ∷ threes a b c n others
+
+-- eight times three limits and then 24 times one: read from 24 - 3 * n on it limits n times three words, and the others of 24 by that one
+abbrev pub sliding : ℕ → ℕ → ℕ → ℕ → List ℕ
+sliding a b c rest = threes a b c 8 (replicate 24 rest)
+
+-- validated at most assigned, in each of the k hazards from place a on
+unfoldable pub backedAt : List ℕ → ℕ → ℕ → Bool
+backedAt ws a k = allUpto (λ h. leb (word ws (a + 3 * h + 2)) (word ws (a + 3 * h + 1))) k
+
+-- a process at place a, with k hazards
+unfoldable pub processWithin : List ℕ → List ℕ → List ℕ → ℕ → List ℕ → ℕ → Bool
+processWithin lead hazards stores k ws a =
+    backedAt ws (a + 4) k
+    && (within ws a lead 0 4
+    && (within ws (a + 4) hazards (24 - 3 * k) 24
+    && within ws (a + 4 + 3 * k) stores (24 - 3 * (word ws (a + 3) % 9)) 24))
+
+-- the numbers that the check of the processes goes by
+pub record Ready (ws : List ℕ) : Type 0 where
+  pub sizes : Sizes ws
+  pub quiescence : 1 ≤ word ws 4

@@ -1,0 +1,127 @@
+// Whether the words of the processes are those of a well-formed domain: each at most a limit that goes by its place.
+use faults::Faults;
+ghost use mathlib.Core.Path.{_≡_};
+ghost use mathlib.Core.Bool.{_&&_};
+ghost use Prim.Native.Nat.{_+_, _*_, _≤_};
+ghost use lib.ListN.{length};
+ghost use Rattle.layout.specs.Words.{processesFit};
+ghost use Rattle.faults.specs.Limits.{none};
+ghost use Rattle.process_check.specs.ProcessLimits.{sliding, backedAt, processWithin, Ready};
+
+// Eight times three limits, then 24 times one.
+fn slide(a: u32, b: u32, c: u32, rest: u32) -> [u32; 48]
+    ensures { λ r. ⌜ r ≡ sliding a b c rest ⌝ }
+{
+    [
+        a,
+        b,
+        c,
+        a,
+        b,
+        c,
+        a,
+        b,
+        c,
+        a,
+        b,
+        c,
+        a,
+        b,
+        c,
+        a,
+        b,
+        c,
+        a,
+        b,
+        c,
+        a,
+        b,
+        c,
+        rest,
+        rest,
+        rest,
+        rest,
+        rest,
+        rest,
+        rest,
+        rest,
+        rest,
+        rest,
+        rest,
+        rest,
+        rest,
+        rest,
+        rest,
+        rest,
+        rest,
+        rest,
+        rest,
+        rest,
+        rest,
+        rest,
+        rest,
+        rest,
+    ]
+}
+
+// Whether in each of k hazards, the words from `at` on, validated is at most assigned.
+fn backed(words: &[u32], at: usize, k: usize) -> bool
+    requires { ⌜ at + 3 * k ≤ length (now words) ⌝ }
+    ensures { λ r. ⌜ r ≡ backedAt (now (words .entry)) at k ⌝ }
+{
+    let mut ok = true;
+    let mut h = 0;
+    while h < k {
+        ok = ok & (words[at + 3 * h + 2] <= words[at + 3 * h + 1]);
+        h += 1;
+    }
+    ok
+}
+
+// The process whose words start at `at`.
+fn process(
+    faults: Faults,
+    words: &[u32],
+    at: usize,
+    k: usize,
+    lead: &[u32],
+    hazards: &[u32],
+    stores: &[u32],
+) -> Faults
+    requires { ⌜ (k ≤ 8) × (at + (28 + 3 * k) ≤ length (now words)) ⌝ }
+    requires { ⌜ (length (now lead) ≡ 4) × (length (now hazards) ≡ 48) × (length (now stores) ≡ 48) ⌝ }
+    ensures { λ r. ⌜ none r ≡ (none faults && processWithin (now (lead .entry)) (now (hazards .entry)) (now (stores .entry)) k (now (words .entry)) at) ⌝ }
+{
+    let one = faults::noted(faults, !backed(words, at + 4, k));
+    let two = faults::pieces(one, words, at, lead, 0, 1);
+    let three = faults::pieces(two, words, at + 4, hazards, 24 - 3 * k, 6);
+    faults::pieces(
+        three,
+        words,
+        at + 4 + 3 * k,
+        stores,
+        24 - 3 * layout::wide(words[at + 3] % 9),
+        6,
+    )
+}
+
+// Whether every process fits.
+pub fn processes_fit(words: &[u32]) -> bool
+    requires { ⌜ Ready (now words) ⌝ }
+    ensures { λ r. ⌜ r ≡ processesFit (now (words .entry)) ⌝ }
+{
+    let count = layout::wide(words[0]);
+    let k = layout::wide(words[1]);
+    let lead = [2, words[4] - 1, 1, 8];
+    let hazards = slide(words[2], words[2], 1, 4294967295);
+    let stores = slide(words[1] - 1, words[2], words[6], 0);
+    let mut faults = faults::no_faults();
+    let mut at = 9;
+    let mut p = 0;
+    while p < count {
+        faults = process(faults, words, at, k, &lead, &hazards, &stores);
+        at += 28 + 3 * k;
+        p += 1;
+    }
+    faults::is_clean(faults)
+}
