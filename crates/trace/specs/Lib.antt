@@ -1,0 +1,4 @@
+-- What the contracts of `trace` cite.
+pub mod Bytes
+pub mod Trace
+pub mod Values
