@@ -1,1 +1,4 @@
 pub mod Opening
+pub mod InTurn
+pub mod Shifted
+pub mod Theorems

@@ -10,7 +10,8 @@ use borrow.Author.Tests.{le-leb, lt-leb, leb-true, leb-false, eqb-true}
 use Rattle.lists.proofs.Bools.{both}
 use Rattle.qsense.specs.Calls.{inRange}
 use Rattle.trace.specs.Bytes.{markAt, stepIn, noStep, stepAt}
-use Rattle.trace.specs.Trace.{Reading, refused, given, ask, trailerAt, countOf, distanceOf, trailerRight, paramsOf, questioned}
+use Rattle.trace.specs.Trace.{refused, given, trailerAt, countOf, distanceOf, trailerRight, paramsOf}
+use Rattle.trace.specs.Trace.{questioned}
 
 -- ---- an offset
 

@@ -2,3 +2,4 @@
 pub mod Bytes
 pub mod Trace
 pub mod Values
+pub mod Claims

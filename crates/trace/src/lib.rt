@@ -11,10 +11,14 @@ ghost use Rattle.trace.specs.Bytes.{wordAt, markAt, paramsAt, stepIn, st
 ghost use Rattle.trace.specs.Trace.{distanceOf, trailerRight, frontAt, frontOf};
 ghost use Rattle.trace.specs.Values.{stepValue, headerValue, openedValue, refusalOf};
 
-// The most bytes of a trace; the bytes of its parameters, of a step, and of the trailer.
+// The most bytes of a trace.
 const LIMIT: usize = 65536;
+
+// The bytes of its six parameters, of a step, and of the trailer.
 const PARAMS_SIZE: usize = 24;
+
 const STEP_SIZE: usize = 12;
+
 const TRAILER_SIZE: usize = 12;
 
 // The five numbers of a step. process, hazard and node (the paper's worker, slot and card) are counted from 0.
@@ -133,7 +137,7 @@ fn between(low: u32, high: u32, n: u32) -> bool
     (low <= n) & (n <= high)
 }
 
-// Are all six parameters in their ranges?
+// Are all six parameters in their ranges? The same question as for making a domain.
 fn in_range(params: Params) -> bool
     ensures { λ r. ⌜ r ≡ inRange (paramsValue params) ⌝ }
 {

@@ -1,5 +1,5 @@
 -- `trace::open_trace` meets its contract: at each return the tests that led there say which question has the answer no. Assumes nothing.
-use mathlib.Core.Bool.{Bool, true, false}
+use mathlib.Core.Bool.{true}
 use mathlib.Core.Path.{_≡_, sym, ap, _∙_}
 use borrow.Author.Tests.{not-true, not-false}
 use Rattle.qsense.specs.Calls.{inRange}

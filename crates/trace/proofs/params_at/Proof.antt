@@ -40,14 +40,14 @@ word-at-requires-6 c κs = search needs
 returns : tie.Need-returns
 unfolding paramsAt
 returns c = λ t.
-      record {
-        processes = c .before .before .before .before .before .word-at .ensures t;
-        hazards = c .before .before .before .before .word-at2 .ensures t;
-        nodes = c .before .before .before .word-at3 .ensures t;
-        visibilityBound = c .before .before .word-at4 .ensures t;
-        quiescenceThreshold = c .before .word-at5 .ensures t;
-        fallbackThreshold = c .word-at6 .ensures t;
-      }
+    record {
+      processes = c .before .before .before .before .before .word-at .ensures t;
+      hazards = c .before .before .before .before .word-at2 .ensures t;
+      nodes = c .before .before .before .word-at3 .ensures t;
+      visibilityBound = c .before .before .word-at4 .ensures t;
+      quiescenceThreshold = c .before .word-at5 .ensures t;
+      fallbackThreshold = c .word-at6 .ensures t;
+    }
 
 pub params-at-spec : {M : Type 1} → statement M
 params-at-spec =
