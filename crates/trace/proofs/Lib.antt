@@ -1,4 +1,5 @@
 pub mod Opening
 pub mod InTurn
 pub mod Shifted
+pub mod ReadBack
 pub mod Theorems

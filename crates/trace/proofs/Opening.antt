@@ -2,11 +2,11 @@
 use Prim.Native.Nat.{ℕ, _+_, _*_, _-_, _≤_, _<_}
 use mathlib.Core.Bool.{Bool, true, false, _&&_}
 use mathlib.Core.List.{List}
-use mathlib.Core.Path.{_≡_, refl}
+use mathlib.Core.Path.{_≡_, refl, sym, _∙_}
 use native.Mathlib.Omega.{arith}
 use lib.ListN.{length}
 use lib.Dec.{leb, eqb}
-use borrow.Author.Tests.{le-leb, lt-leb, leb-true, leb-false, eqb-true}
+use borrow.Author.Tests.{le-leb, lt-leb, leb-true, leb-false, eqb-true, eq-eqb}
 use Rattle.lists.proofs.Bools.{both}
 use Rattle.qsense.specs.Calls.{inRange}
 use Rattle.trace.specs.Bytes.{markAt, stepIn, noStep, stepAt}
@@ -66,6 +66,14 @@ trailer-fits bs h =
       distance = eqb-true (distanceOf bs) (36 + 12 * countOf bs) (c .0);
       inside = leb-true (distanceOf bs) (length bs) (c .1);
     }
+
+-- and back
+pub right-trailer : (bs : List ℕ) → Fits bs → trailerRight bs ≡ true
+right-trailer bs f =
+    sym
+    (trailer-tests bs true (distanceOf bs) (36 + 12 * countOf bs) (f .room) (sym (f .mark)) refl refl)
+    ∙ rw
+    (eq-eqb (distanceOf bs) (36 + 12 * countOf bs) (f .distance), le-leb (distanceOf bs) (length bs) (f .inside))
 
 -- ---- the three questions
 

@@ -13,7 +13,7 @@ use Rattle.trace.specs.Bytes.{byteAt, wordAt, markAt, paramsAt, stepIn, 
 use Rattle.trace.specs.Trace.{given, ask, Trace, traceOf, trailerRight, trailerAt, countOf}
 use Rattle.trace.specs.Trace.{distanceOf, startOf, paramsOf, firstOf, stepsOf, questioned}
 use Rattle.trace.specs.Claims.{EarlierUnread}
-use Rattle.trace.proofs.Opening.{Fits, trailer-fits, trailer-tests}
+use Rattle.trace.proofs.Opening.{Fits, trailer-fits, right-trailer}
 
 module _ (pre bs : List ℕ) where
   long : length (pre ++ bs) ≡ length pre + length bs
@@ -116,20 +116,14 @@ module _ (pre bs : List ℕ) where
 
     right-shifted : trailerRight (pre ++ bs) ≡ true
     right-shifted =
-        sym
-        (trailer-tests
+        right-trailer
         (pre ++ bs)
-        true
-        (distanceOf (pre ++ bs))
-        (36 + 12 * countOf (pre ++ bs))
-        (omega (arith, long, fits .room))
-        (sym (mark-shifted (trailerAt bs + 8) (trailerAt (pre ++ bs) + 8) (omega (arith, long, fits .room)) ∙ fits .mark))
-        refl
-        refl)
-        ∙ rw (
-          eq-eqb (distanceOf (pre ++ bs)) (36 + 12 * countOf (pre ++ bs)) (omega (arith, same-count, same-distance, fits .distance)),
-          le-leb (distanceOf (pre ++ bs)) (length (pre ++ bs)) (omega (arith, long, same-distance, fits .inside)),
-        )
+        (record {
+          room = omega (arith, long, fits .room);
+          mark = mark-shifted (trailerAt bs + 8) (trailerAt (pre ++ bs) + 8) (omega (arith, long, fits .room)) ∙ fits .mark;
+          distance = omega (arith, same-count, same-distance, fits .distance);
+          inside = omega (arith, long, same-distance, fits .inside);
+        })
 
 -- ---- only the last question is left
 

@@ -9,9 +9,10 @@ use lib.ListN.{set, length-set}
 use lib.Dec.{leb}
 use lib.Seq.{getD-set-other}
 use Rattle.trace.specs.Bytes.{byteAt, wordAt, stepIn, noStep, stepAt}
-use Rattle.trace.specs.Claims.{FrontLeads, StepsInTurn, EarlierUnread, FourthUnread}
+use Rattle.trace.specs.Claims.{FrontLeads, StepsInTurn, EarlierUnread, FourthUnread, WrittenRead}
 use Rattle.trace.proofs.InTurn as T
 use Rattle.trace.proofs.Shifted as S
+use Rattle.trace.proofs.ReadBack as R
 
 pub front-leads : FrontLeads
 front-leads = T.front-leads
@@ -21,6 +22,9 @@ steps-in-turn = T.steps-in-turn
 
 pub earlier-unread : EarlierUnread
 earlier-unread = S.earlier-unread
+
+pub written-read : WrittenRead
+written-read = R.written-read
 
 -- every place but the fourth keeps its byte
 kept : (bs : List ℕ) (i v j : ℕ) → j ≢ i + 3 → byteAt (set bs (i + 3) v) j ≡ byteAt bs j

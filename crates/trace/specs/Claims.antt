@@ -5,8 +5,11 @@ use mathlib.Core.Bool.{true}
 use mathlib.Core.List.{List, _++_}
 use mathlib.Core.Path.{_≡_}
 use lib.ListN.{length, getD, set}
+use Rattle.lists.specs.Tests.{All}
+use Rattle.qsense.specs.Calls.{inRange}
 use Rattle.trace.specs.Bytes.{noStep, stepIn, stepAt, stepsFrom}
 use Rattle.trace.specs.Trace.{Reading, refused, given, Front, frontOf, Trace, traceOf, trailerRight}
+use Rattle.trace.specs.Written.{StepFits, traceBytes}
 
 -- the trace whose front is known
 abbrev pub traceFrom : List ℕ → Reading Front → Reading Trace
@@ -40,3 +43,9 @@ EarlierUnread =
 -- the fourth byte of a step is not read
 abbrev pub FourthUnread : Type 0
 FourthUnread = (bs : List ℕ) (i v : ℕ) → stepAt (set bs (i + 3) v) i ≡ stepAt bs i
+
+-- a trace that fits is read back as it was written
+abbrev pub WrittenRead : Type 0
+WrittenRead =
+    (t : Trace) → inRange (t .params) ≡ true → All StepFits (t .steps) → 36 + 12 * length (t .steps) ≤ 65536
+    → traceOf (traceBytes t) ≡ given t

@@ -2,4 +2,5 @@
 pub mod Bytes
 pub mod Trace
 pub mod Values
+pub mod Written
 pub mod Claims
