@@ -9,8 +9,8 @@ use lib.Dec.{leb}
 use borrow.Author.Tests.{le-leb, leb-true}
 use Rattle.qsense.specs.Calls.{inRange}
 use Rattle.trace.specs.Bytes.{noStep, stepAt, stepsFrom}
-use Rattle.trace.specs.Trace.{given, ask, Front, frontAt, frontOf, Trace, traceOf, trailerRight}
-use Rattle.trace.specs.Trace.{countOf, distanceOf, paramsOf, stepsOf, questioned}
+use Rattle.trace.specs.Trace.{given, ask, Front, frontAt, frontOf, Trace, traceAt, traceOf, trailerRight}
+use Rattle.trace.specs.Trace.{countOf, distanceOf, paramsOf, questioned}
 use Rattle.trace.specs.Claims.{traceFrom, FrontLeads, StepsInTurn}
 use Rattle.trace.proofs.Opening.{step-inside, Fits, trailer-fits}
 
@@ -32,7 +32,7 @@ steps-each bs i (suc n) (suc j) h =
 -- ---- the front leads to the trace
 
 asked-alike : (bs : List ℕ) (l t r : Bool)
-    → ask l 18 (ask t 19 (ask r 1 (given (record { params = paramsOf bs; steps = stepsOf bs }))))
+    → ask l 18 (ask t 19 (ask r 1 (given (traceAt bs))))
     ≡ traceFrom bs (ask l 18 (ask t 19 (ask r 1 (given (frontAt bs)))))
 asked-alike bs false t r = refl
 asked-alike bs true false r = refl

@@ -1,12 +1,12 @@
 -- A trace that is written is read back. Assumes nothing.
-use Prim.Native.Nat.{ℕ, _+_, _*_, _-_, _/_, _%_, _≤_, _<_}
+use Prim.Native.Nat.{ℕ, _+_, _*_, _/_, _%_, _≤_, _<_}
 use mathlib.Core.Bool.{true, _&&_}
 use mathlib.Core.List.{List, [], _∷_, _++_, append-assoc}
 use mathlib.Core.Path.{_≡_, refl, ap, sym, _∙_}
 use native.Mathlib.Omega.{arith}
 use lib.ListN.{length, length-append}
 use lib.Dec.{leb}
-use borrow.Author.Tests.{le-leb, leb-true, eq-eqb}
+use borrow.Author.Tests.{le-leb, leb-true}
 use Rattle.lists.specs.Tests.{All}
 use Rattle.lists.proofs.Bools.{both}
 use Rattle.model.specs.Params.{Params}
@@ -14,11 +14,14 @@ use Rattle.model.specs.State.{Step}
 use Rattle.layout.specs.Words.{between}
 use Rattle.qsense.specs.Calls.{inRange, sizesInRange}
 use Rattle.trace.specs.Bytes.{wordAt, markAt, paramsAt, stepIn, stepAt, stepsFrom}
-use Rattle.trace.specs.Trace.{given, Trace, traceOf, trailerAt, countOf, distanceOf, trailerRight, startOf, paramsOf, firstOf, stepsOf}
-use Rattle.trace.specs.Written.{wordBytes, paramsBytes, stepBytes, stepsBytes, trailerBytes, traceBytes, StepFits}
+use Rattle.trace.specs.Trace.{given, Trace, traceAt, traceOf, trailerAt, countOf, distanceOf, trailerRight}
+use Rattle.trace.specs.Trace.{startOf}
+use Rattle.trace.specs.Trace.{paramsOf, firstOf, stepsOf}
+use Rattle.trace.specs.Written.{wordBytes, paramsBytes, stepBytes, stepsBytes, trailerBytes, traceBytes}
+use Rattle.trace.specs.Written.{StepFits}
 use Rattle.trace.specs.Claims.{WrittenRead}
 use Rattle.trace.proofs.Opening.{step-inside, right-trailer, opens}
-use Rattle.trace.proofs.Shifted.{word-shifted, mark-shifted, params-shifted, steps-shifted}
+use Rattle.trace.proofs.Shifted.{word-shifted, mark-shifted, steps-shifted}
 
 -- ---- a number
 
@@ -44,14 +47,14 @@ params-back : (a : Params) (rest : List ℕ) → Small a → paramsAt (paramsByt
 unfolding paramsAt paramsBytes wordAt wordBytes
 params-back a rest h =
     λ t.
-      record {
-        processes = four (a .processes) (h .processes) t;
-        hazards = four (a .hazards) (h .hazards) t;
-        nodes = four (a .nodes) (h .nodes) t;
-        visibilityBound = four (a .visibilityBound) (h .visibilityBound) t;
-        quiescenceThreshold = four (a .quiescenceThreshold) (h .quiescenceThreshold) t;
-        fallbackThreshold = four (a .fallbackThreshold) (h .fallbackThreshold) t;
-      }
+    record {
+      processes = four (a .processes) (h .processes) t;
+      hazards = four (a .hazards) (h .hazards) t;
+      nodes = four (a .nodes) (h .nodes) t;
+      visibilityBound = four (a .visibilityBound) (h .visibilityBound) t;
+      quiescenceThreshold = four (a .quiescenceThreshold) (h .quiescenceThreshold) t;
+      fallbackThreshold = four (a .fallbackThreshold) (h .fallbackThreshold) t;
+    }
 
 -- ---- steps
 
@@ -154,20 +157,22 @@ module _ (t : Trace) where
   front-long : length front ≡ 24 + 12 * length (t .steps)
   unfolding front
   front-long =
-      omega
-      (arith,
-      length-append (paramsBytes (t .params)) (stepsBytes (t .steps)),
-      params-long (t .params),
-      steps-long (t .steps))
+      omega (
+        arith,
+        length-append (paramsBytes (t .params)) (stepsBytes (t .steps)),
+        params-long (t .params),
+        steps-long (t .steps),
+      )
 
   all-long : length (traceBytes t) ≡ 36 + 12 * length (t .steps)
   all-long =
       ap length two
-      ∙ omega
-      (arith,
-      length-append front (trailerBytes (length (t .steps))),
-      front-long,
-      trailer-long (length (t .steps)))
+      ∙ omega (
+        arith,
+        length-append front (trailerBytes (length (t .steps))),
+        front-long,
+        trailer-long (length (t .steps)),
+      )
 
   module _ (short : 36 + 12 * length (t .steps) ≤ 65536) where
     count-read : countOf (traceBytes t) ≡ length (t .steps)
@@ -226,7 +231,7 @@ unfolding traceOf
 written-read t ranges each short =
     opens
     (traceBytes t)
-    (record { params = paramsOf (traceBytes t); steps = stepsOf (traceBytes t) })
+    (traceAt (traceBytes t))
     (omega (arith, all-long t))
     (right-read t short)
     (ap inRange (params-read t short ranges) ∙ ranges)

@@ -7,10 +7,10 @@ use native.Mathlib.Omega.{arith}
 use lib.ListN.{length, length-append}
 use lib.Seq.{getD-append-add}
 use lib.Dec.{leb, eqb}
-use borrow.Author.Tests.{le-leb, lt-leb, leb-true, leb-false, eq-eqb}
+use borrow.Author.Tests.{le-leb, lt-leb, leb-true, leb-false}
 use Rattle.qsense.specs.Calls.{inRange}
 use Rattle.trace.specs.Bytes.{byteAt, wordAt, markAt, paramsAt, stepIn, noStep, stepAt, stepsFrom}
-use Rattle.trace.specs.Trace.{given, ask, Trace, traceOf, trailerRight, trailerAt, countOf}
+use Rattle.trace.specs.Trace.{given, ask, Trace, traceAt, traceOf, trailerRight, trailerAt, countOf}
 use Rattle.trace.specs.Trace.{distanceOf, startOf, paramsOf, firstOf, stepsOf, questioned}
 use Rattle.trace.specs.Claims.{EarlierUnread}
 use Rattle.trace.proofs.Opening.{Fits, trailer-fits, right-trailer}
@@ -128,7 +128,7 @@ module _ (pre bs : List ℕ) where
 -- ---- only the last question is left
 
 settled : (bs : List ℕ) → length bs ≤ 65536 → trailerRight bs ≡ true
-    → traceOf bs ≡ ask (inRange (paramsOf bs)) 1 (given (record { params = paramsOf bs; steps = stepsOf bs }))
+    → traceOf bs ≡ ask (inRange (paramsOf bs)) 1 (given (traceAt bs))
 unfolding traceOf questioned
 settled bs h t = rw (le-leb (length bs) 65536 h, t)
 
@@ -138,5 +138,5 @@ earlier-unread pre bs right h =
     ∙ ap (λ (t : Trace). ask (inRange (t .params)) 1 (given t)) same
     ∙ sym (settled bs (omega (arith, long pre bs)) right)
   where
-    same : _≡_ {A = Trace} (record { params = paramsOf (pre ++ bs); steps = stepsOf (pre ++ bs) }) (record { params = paramsOf bs; steps = stepsOf bs })
+    same : traceAt (pre ++ bs) ≡ traceAt bs
     same = let p = same-params pre bs right in let s = same-steps pre bs right in λ t. record { params = p t; steps = s t }

@@ -4,3 +4,4 @@ pub mod Trace
 pub mod Values
 pub mod Written
 pub mod Claims
+pub mod Cases

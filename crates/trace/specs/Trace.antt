@@ -66,8 +66,11 @@ pub record Trace : Type 0 where
   pub params : Params
   pub steps : List Step
 
+abbrev pub traceAt : List ℕ → Trace
+traceAt bs = record { params = paramsOf bs; steps = stepsOf bs }
+
 unfoldable pub traceOf : List ℕ → Reading Trace
-traceOf bs = questioned bs (record { params = paramsOf bs; steps = stepsOf bs })
+traceOf bs = questioned bs (traceAt bs)
 
 -- what is known of a trace before a step is read: its parameters, the count of its steps, and where the first stands
 pub record Front : Type 0 where

@@ -32,7 +32,8 @@ add-t6 : tie.Need-add-t6
 add-t6 c = search needs
 
 returns : tie.Need-returns
-returns c = let bs = c .before .before .before .before .before .args .bytes .now in
+returns c =
+    let bs = c .before .before .before .before .before .args .bytes .now in
     let d = c .before .wide .ensures .0 ∙ c .before .before .word-at2 .ensures in
     let p = c .params-at .ensures ∙ ap (λ n. paramsAt bs (length bs - n)) d in
     λ t. record { params = p t; count = c .before .before .before .word-at .ensures t; first = length bs - d t + 24 }

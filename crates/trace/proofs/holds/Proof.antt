@@ -10,7 +10,8 @@ use Rattle.trace.proofs.holds.Statement.{statement}
 use Rattle.trace.proofs.holds.Tie as tie
 
 returns : tie.Need-returns
-returns c = let a = c .before .args in
+returns c =
+    let a = c .before .args in
     let past : length (a .bytes .now) < a .at + a .size = omega arith in
     sym (lt-leb (a .at + a .size) (length (a .bytes .now)) past)
 

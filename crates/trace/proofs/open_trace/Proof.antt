@@ -25,7 +25,8 @@ trailer-right-requires c κs = search needs
 
 returns-2 : tie.Need-returns-2
 unfolding frontOf
-returns-2 c = let bs = c .before .before .before .before .args .bytes .now in
+returns-2 c =
+    let bs = c .before .before .before .before .args .bytes .now in
     sym (no-trailer bs (frontAt bs) (omega arith) (sym (c .before .trailer-right .ensures) ∙ not-true _ (c .if2 .taken)))
 
 header-of-requires : tie.Need-header-of-requires
@@ -36,12 +37,14 @@ in-range-requires c κs = search needs
 
 returns-3 : tie.Need-returns-3
 unfolding frontOf
-returns-3 c = let bs = c .before .before .before .before .before .before .before .before .args .bytes .now in
+returns-3 c =
+    let bs = c .before .before .before .before .before .before .before .before .args .bytes .now in
     sym (out-of-range bs (frontAt bs) (omega arith) (right (c .before .before .before .before)) (ranges (c .before) ∙ not-true _ (c .if3 .taken)))
 
 returns-4 : tie.Need-returns-4
 unfolding frontOf
-returns-4 c = let bs = c .before .before .before .before .before .before .before .before .args .bytes .now in
+returns-4 c =
+    let bs = c .before .before .before .before .before .before .before .before .args .bytes .now in
     ap given (c .before .before .before .header-of .ensures)
     ∙ sym (opens bs (frontAt bs) (omega arith) (right (c .before .before .before .before)) (ranges (c .before) ∙ not-false _ (c .if3 .left)))
 

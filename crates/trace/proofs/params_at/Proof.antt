@@ -39,7 +39,8 @@ word-at-requires-6 c κs = search needs
 
 returns : tie.Need-returns
 unfolding paramsAt
-returns c = λ t.
+returns c =
+    λ t.
     record {
       processes = c .before .before .before .before .before .word-at .ensures t;
       hazards = c .before .before .before .before .word-at2 .ensures t;

@@ -10,14 +10,16 @@ holds-requires : tie.Need-holds-requires
 holds-requires c κs = search needs
 
 returns : tie.Need-returns
-returns c = let a = c .before .before .before .args in
+returns c =
+    let a = c .before .before .before .args in
     sym (step-outside (a .bytes .now) (a .at) (sym (c .before .holds .ensures) ∙ not-true _ (c .if1 .taken)))
 
 step-inside-requires : tie.Need-step-inside-requires
 step-inside-requires c κs = leb-true _ _ (sym (c .before .holds .ensures) ∙ not-false _ (c .if1 .left))
 
 returns-2 : tie.Need-returns-2
-returns-2 c = let a = c .before .before .before .before .args in
+returns-2 c =
+    let a = c .before .before .before .before .args in
     c .step-inside .ensures
     ∙ sym (step-inside (a .bytes .now) (a .at) (sym (c .before .before .holds .ensures) ∙ not-false _ (c .before .if1 .left)))
 

@@ -42,7 +42,8 @@ word-at-requires-2 c κs = search needs
 
 returns : tie.Need-returns
 unfolding stepIn
-returns c = λ t.
+returns c =
+    λ t.
     record {
       kind = c .before .before .before .before .before .before .wide .ensures .0 t;
       process = c .before .before .before .before .wide2 .ensures .0 t;

@@ -43,7 +43,8 @@ add-result-2 : tie.Need-add-result-2
 add-result-2 c = search needs
 
 returns-2 : tie.Need-returns-2
-returns-2 c = let bs = c .before .before .before .before .before .before .before .args .bytes .now in
+returns-2 c =
+    let bs = c .before .before .before .before .before .before .before .args .bytes .now in
     trailer-tests
     bs
     _
