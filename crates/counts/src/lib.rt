@@ -36,20 +36,13 @@ pub fn reachable_count(nodes: &[u32], m: u32) -> u32
     reachable
 }
 
-// Two words as one number.
-fn pair(low: u32, high: u32) -> usize
-    ensures { λ r. ⌜ (r ≡ low + high * 4294967296) × (low < 4294967296) ⌝ }
-{
-    layout::wide(low) + layout::wide(high) * 4294967296
-}
-
 // Is node c a Retired node of p? State and owner are compared at once.
 pub fn retired_by(nodes: &[u32], m: u32, c: NodeId, p: ProcessId) -> bool
     requires { ⌜ Part m (now nodes) × (c .0 < m) ⌝ }
     ensures { λ r. ⌜ r ≡ retiredBy (p .0) (nodeIn m (now (nodes .entry)) (c .0)) ⌝ }
 {
     let at = nodes::offset(m, c);
-    pair(nodes::state_of(nodes, m, c), nodes[at + 1]) == pair(RETIRED, p.0)
+    layout::pair(nodes::state_of(nodes, m, c), nodes[at + 1]) == layout::pair(RETIRED, p.0)
 }
 
 // How many Retired nodes p has.

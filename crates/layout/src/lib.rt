@@ -1,7 +1,7 @@
 // The values that travel by value: ids, parameters, and the records that stand in a domain's words; a word as an index, where things
 // stand, and words cleared.
 ghost use mathlib.Core.Path.{_≡_};
-ghost use Prim.Native.Nat.{_≤_, _<_};
+ghost use Prim.Native.Nat.{_+_, _*_, _<_, _≤_};
 ghost use lib.ListN.{length, replicate};
 ghost use Rattle.layout.specs.Codecs.{shape};
 ghost use Rattle.layout.specs.Shape.{processStart};
@@ -51,6 +51,13 @@ pub fn wide(x: u32) -> usize
     ensures { λ r. ⌜ (r ≡ x) × (r < 4294967296) ⌝ }
 {
     x as usize
+}
+
+// Two words as one number.
+pub fn pair(low: u32, high: u32) -> usize
+    ensures { λ r. ⌜ (r ≡ low + high * 4294967296) × (low < 4294967296) ⌝ }
+{
+    wide(low) + wide(high) * 4294967296
 }
 
 // Where process p starts, with k hazards a process; of the number of processes, where the nodes start.

@@ -1,47 +1,63 @@
 -- A process within its limits is one that fits. Assumes nothing.
-use Prim.Native.Nat.{ℕ, zero, suc, _+_, _-_, _*_, _%_, _<_, _≤_}
+use Prim.Native.Nat.{ℕ, zero, suc, _+_, _-_, _*_, _<_, _≤_}
 use mathlib.Core.Bool.{Bool, true, false, not, _&&_, cond, and-assoc, and-comm, Bool·not-not}
 use mathlib.Core.List.{List}
 use mathlib.Core.Path.{_≡_, refl, sym, _∙_, ap}
 use native.Mathlib.Omega.{arith}
 use native.Mathlib.Nat.{add-zero, add-assoc, mul-le-mul-right}
 use lib.ListN.{length}
-use borrow.Author.Tests.{le-leb, lt-leb, leb-true, ltb-true, ltb-false}
-use lib.Dec.{leb, ltb, eqb, leb·zero, eqb·suc-zero}
+use borrow.Author.Tests.{le-leb, lt-leb, leb-true, ltb-true, ltb-false, ne-eqb}
+use lib.Dec.{leb, ltb, eqb, eqb·suc-zero}
 use Rattle.lists.specs.Tests.{implies}
 use Rattle.lists.specs.Upto.{allUpto}
+use Rattle.lists.proofs.Bools.{by-cond}
 use Rattle.lists.proofs.Upto.{all-ext, all-more}
 use Rattle.lists.proofs.UptoParts.{all-past, all-threes, all-both}
 use Rattle.layout.specs.Shape.{word, processStart}
 use Rattle.layout.specs.Codecs.{shape}
 use Rattle.layout.specs.Words.{hazardFits, storeFits, processFits, processesFit}
 use Rattle.faults.specs.Limits.{within, anyWord}
-use Rattle.process_check.specs.ProcessLimits.{leadLimits, sliding, backedAt, processWithin, Ready}
+use Rattle.process_check.specs.ProcessLimits.{leadLimits, sliding, backedAt, upToEight, processWithin, Ready}
 use Rattle.faults.proofs.Tests.{below, only-zero}
 use Rattle.process_check.proofs.Tables.{slid, slid-past}
 
 -- what the four looks at a process leave
 pub process-none : (ws lead hazards stores : List ℕ) (k a i : ℕ) (b v w x y z : Bool) → b ≡ backedAt ws (a + 4) k → w ≡ (v && not (not b))
-    → x ≡ (w && within ws a lead 0 4) → y ≡ (x && within ws (a + 4) hazards (24 - 3 * k) 24) → i ≡ word ws (a + 3) % 9
+    → x ≡ (w && within ws a lead 0 4) → y ≡ (x && within ws (a + 4) hazards (24 - 3 * k) 24) → i ≡ upToEight (word ws (a + 3))
     → z ≡ (y && within ws (a + 4 + 3 * k) stores (24 - 3 * i) 24) → z ≡ (v && processWithin lead hazards stores k ws a)
 unfolding processWithin
 process-none ws lead hazards stores k a i b v w x y z hb hw hx hy hi hz = rw (hz, hi, hy, hx, hw, hb) (simp (Bool·not-not, and-assoc))
 
--- validated at most 1 and at most assigned: 1 only where one is assigned
-backed-fits : (d s : ℕ) → (leb d 1 && leb d s) ≡ (leb d 1 && implies (eqb d 1) (not (eqb s 0)))
-backed-fits zero s = leb·zero s
-backed-fits (suc zero) zero = refl
-backed-fits (suc zero) (suc s) = rw (le-leb 1 (suc s) (omega arith), eqb·suc-zero s)
-backed-fits (suc (suc d)) s = rw (lt-leb (suc (suc d)) 1 (omega arith))
+-- a turn of the loop over a process's hazards
+pub backed-more : (ws : List ℕ) (a h q : ℕ) (b : Bool) → b ≡ backedAt ws a h
+    → q ≡ word ws (a + 3 * h + 1) + word ws (a + 3 * h + 2) * 4294967296 → (b && not (eqb q 4294967296)) ≡ backedAt ws a (h + 1)
+unfolding backedAt
+backed-more ws a h q b e hq =
+    rw hq (all-more (λ i. not (eqb (word ws (a + 3 * i + 1) + word ws (a + 3 * i + 2) * 4294967296) 4294967296)) h b e)
+
+-- validated at most 1, and not 1 with 0 assigned
+backed-fits : (d s : ℕ) → s ≤ anyWord
+    → (leb d 1 && not (eqb (s + d * 4294967296) 4294967296)) ≡ (leb d 1 && implies (eqb d 1) (not (eqb s 0)))
+backed-fits zero s h = rw (ne-eqb (s + 0 * 4294967296) 4294967296 (λ e. omega arith))
+backed-fits (suc zero) zero h = refl
+backed-fits (suc zero) (suc s) h = rw (ne-eqb (suc s + 1 * 4294967296) 4294967296 (λ e. omega arith), eqb·suc-zero s)
+backed-fits (suc (suc d)) s h = rw (lt-leb (suc (suc d)) 1 (omega arith))
+
+up-to-eight : (s : ℕ) → s ≤ 8 → upToEight s ≡ s
+up-to-eight s h = by-cond (λ r. r ≡ s) (ltb s 8) (λ _. refl) (λ q. omega (arith, ltb-false))
 
 module _ (ws : List ℕ) (words : (j : ℕ) → word ws j ≤ anyWord) (k m : ℕ) (few : k ≤ 8) where
   -- the word j of the hazards from place a on within its limit
   abbrev inHazards : ℕ → ℕ → Bool
   inHazards a j = leb (word ws (a + j)) (word (sliding m m 1 anyWord) (24 - 3 * k + j))
 
+  -- hazard h is not validated with nothing assigned
+  abbrev isBacked : ℕ → ℕ → Bool
+  isBacked a h = not (eqb (word ws (a + 3 * h + 1) + word ws (a + 3 * h + 2) * 4294967296) 4294967296)
+
   hazard-fits : (a h : ℕ) → h < k
       → ((inHazards a (3 * h) && (inHazards a (3 * h + 1) && inHazards a (3 * h + 2)))
-      && leb (word ws (a + 3 * h + 2)) (word ws (a + 3 * h + 1)))
+      && isBacked a h)
       ≡ hazardFits m ws (a + 3 * h)
   unfolding hazardFits
   hazard-fits a h l =
@@ -52,7 +68,7 @@ module _ (ws : List ℕ) (words : (j : ℕ) → word ws j ≤ anyWord) (k m : �
         ← add-assoc a (3 * h) 1,
         ← add-assoc a (3 * h) 2,
       )
-      (simp and-assoc (rw (backed-fits (word ws (a + 3 * h + 2)) (word ws (a + 3 * h + 1)))))
+      (simp and-assoc (rw (backed-fits (word ws (a + 3 * h + 2)) (word ws (a + 3 * h + 1)) (words (a + 3 * h + 1)))))
 
   hazards-fit : (a : ℕ) → (within ws a (sliding m m 1 anyWord) (24 - 3 * k) 24 && backedAt ws a k)
       ≡ allUpto (λ h. hazardFits m ws (a + 3 * h)) k
@@ -62,7 +78,7 @@ module _ (ws : List ℕ) (words : (j : ℕ) → word ws j ≤ anyWord) (k m : �
       let past = all-past (inHazards a) (3 * k) (24 - 3 * k)
       (λ i l u. rw (slid-past m m 1 anyWord k few i l (omega arith)) (le-leb (word ws (a + i)) anyWord (words (a + i)))) in
       let f : ℕ → Bool = λ h. inHazards a (3 * h) && (inHazards a (3 * h + 1) && inHazards a (3 * h + 2)) in
-      let g : ℕ → Bool = λ h. leb (word ws (a + 3 * h + 2)) (word ws (a + 3 * h + 1)) in
+      let g : ℕ → Bool = isBacked a in
       rw (ap (allUpto (inHazards a)) e ∙ past ∙ all-threes (inHazards a) k, all-both f g k)
       (all-ext (λ h. f h && g h) (λ h. hazardFits m ws (a + 3 * h)) k (hazard-fits a))
 
@@ -101,10 +117,10 @@ module _ (ws : List ℕ) (s k m clock : ℕ) (some' : 1 ≤ k) (few : s ≤ 8) w
           )
           (simp only-zero)
 
-  stores-fit : (a : ℕ) → within ws a (sliding (k - 1) m clock 0) (24 - 3 * (s % 9)) 24 ≡ allUpto (λ e. storeFits s k m clock ws (a + 3 * e) e) 8
+  stores-fit : (a : ℕ) → within ws a (sliding (k - 1) m clock 0) (24 - 3 * upToEight s) 24 ≡ allUpto (λ e. storeFits s k m clock ws (a + 3 * e) e) 8
   unfolding within
   stores-fit a =
-      let z : s % 9 ≡ s = omega arith in
+      let z = up-to-eight s few in
       rw (z, all-threes (inBuffer a) 8)
       (all-ext
       (λ e. inBuffer a (3 * e) && (inBuffer a (3 * e + 1) && inBuffer a (3 * e + 2)))
@@ -125,7 +141,7 @@ module _ (ws : List ℕ) (words : (j : ℕ) → word ws j ≤ anyWord) (k m q cl
   rest-fits : (b : Bool) → leb (word ws (a + 3)) 8 ≡ b
       → (b
       && (within ws (a + 4) (sliding m m 1 anyWord) (24 - 3 * k) 24
-      && (within ws (a + (4 + 3 * k)) (sliding (k - 1) m clock 0) (24 - 3 * (word ws (a + 3) % 9)) 24 && backedAt ws (a + 4) k)))
+      && (within ws (a + (4 + 3 * k)) (sliding (k - 1) m clock 0) (24 - 3 * upToEight (word ws (a + 3))) 24 && backedAt ws (a + 4) k)))
       ≡ (b
       && (allUpto (λ h. hazardFits m ws (a + 4 + 3 * h)) k
       && allUpto (λ e. storeFits (word ws (a + 3)) k m clock ws (a + (4 + 3 * k) + 3 * e) e) 8))
@@ -141,7 +157,7 @@ module _ (ws : List ℕ) (words : (j : ℕ) → word ws j ≤ anyWord) (k m q cl
   unfolding processWithin processFits
   process-fits =
       let late : Bool = within ws (a + 4) (sliding m m 1 anyWord) (24 - 3 * k) 24
-      && within ws (a + 4 + 3 * k) (sliding (k - 1) m clock 0) (24 - 3 * (word ws (a + 3) % 9)) 24 in
+      && within ws (a + 4 + 3 * k) (sliding (k - 1) m clock 0) (24 - 3 * upToEight (word ws (a + 3))) 24 in
       rw (
         and-comm (backedAt ws (a + 4) k) (within ws a (leadLimits (q - 1)) 0 4 && late),
         lead-fits,

@@ -1,9 +1,9 @@
 -- A process that fits, as the code looks at it: each word at most a limit that goes by its place. Assumes nothing.
-use Prim.Native.Nat.{ℕ, zero, suc, _+_, _-_, _*_, _%_, _≤_}
-use mathlib.Core.Bool.{Bool, _&&_}
+use Prim.Native.Nat.{ℕ, zero, suc, _+_, _-_, _*_, _≤_}
+use mathlib.Core.Bool.{Bool, not, _&&_, cond}
 use mathlib.Core.List.{List, [], _∷_}
 use lib.ListN.{replicate}
-use lib.Dec.{leb}
+use lib.Dec.{ltb, eqb}
 use Rattle.lists.specs.Upto.{allUpto}
 use Rattle.layout.specs.Shape.{word}
 use Rattle.layout.specs.Sound.{Sizes}
@@ -22,9 +22,13 @@ threes a b c (suc n) others = a ∷ b ∷ c ∷ threes a b c n others
 abbrev pub sliding : ℕ → ℕ → ℕ → ℕ → List ℕ
 sliding a b c rest = threes a b c 8 (replicate 24 rest)
 
--- validated at most assigned, in each of the k hazards from place a on
+-- in none of the k hazards from place a on is validated 1 with 0 assigned; the two words are taken as one number
 unfoldable pub backedAt : List ℕ → ℕ → ℕ → Bool
-backedAt ws a k = allUpto (λ h. leb (word ws (a + 3 * h + 2)) (word ws (a + 3 * h + 1))) k
+backedAt ws a k =
+    allUpto (λ h. not (eqb (word ws (a + 3 * h + 1) + word ws (a + 3 * h + 2) * 4294967296) 4294967296)) k
+
+abbrev pub upToEight : ℕ → ℕ
+upToEight n = cond (ltb n 8) n 8
 
 -- a process at place a, with k hazards
 unfoldable pub processWithin : List ℕ → List ℕ → List ℕ → ℕ → List ℕ → ℕ → Bool
@@ -32,7 +36,7 @@ processWithin lead hazards stores k ws a =
     backedAt ws (a + 4) k
     && (within ws a lead 0 4
     && (within ws (a + 4) hazards (24 - 3 * k) 24
-    && within ws (a + 4 + 3 * k) stores (24 - 3 * (word ws (a + 3) % 9)) 24))
+    && within ws (a + 4 + 3 * k) stores (24 - 3 * upToEight (word ws (a + 3))) 24))
 
 -- the numbers that the check of the processes goes by
 pub record Ready (ws : List ℕ) : Type 0 where

@@ -6,7 +6,7 @@ ghost use Prim.Native.Nat.{_+_, _*_, _≤_};
 ghost use lib.ListN.{length};
 ghost use Rattle.layout.specs.Words.{processesFit};
 ghost use Rattle.faults.specs.Limits.{none};
-ghost use Rattle.process_check.specs.ProcessLimits.{sliding, backedAt, processWithin, Ready};
+ghost use Rattle.process_check.specs.ProcessLimits.{sliding, backedAt, upToEight, processWithin, Ready};
 
 // Eight times three limits, then 24 times one.
 fn slide(a: u32, b: u32, c: u32, rest: u32) -> [u32; 48]
@@ -64,7 +64,7 @@ fn slide(a: u32, b: u32, c: u32, rest: u32) -> [u32; 48]
     ]
 }
 
-// Whether in each of k hazards, the words from `at` on, validated is at most assigned.
+// Whether none of k hazards, the words from `at` on, is validated with no node assigned: the two words are compared at once.
 fn backed(words: &[u32], at: usize, k: usize) -> bool
     requires { ⌜ at + 3 * k ≤ length (now words) ⌝ }
     ensures { λ r. ⌜ r ≡ backedAt (now (words .entry)) at k ⌝ }
@@ -72,10 +72,17 @@ fn backed(words: &[u32], at: usize, k: usize) -> bool
     let mut ok = true;
     let mut h = 0;
     while h < k {
-        ok = ok & (words[at + 3 * h + 2] <= words[at + 3 * h + 1]);
+        ok = ok & (layout::pair(words[at + 3 * h + 1], words[at + 3 * h + 2]) != 4294967296);
         h += 1;
     }
     ok
+}
+
+// n, or 8 where it is more.
+fn at_most_eight(n: u32) -> u32
+    ensures { λ r. ⌜ (r ≡ upToEight n) × (r ≤ 8) ⌝ }
+{
+    if n < 8 { n } else { 8 }
 }
 
 // The process whose words start at `at`.
@@ -100,7 +107,7 @@ fn process(
         words,
         at + 4 + 3 * k,
         stores,
-        24 - 3 * layout::wide(words[at + 3] % 9),
+        24 - 3 * layout::wide(at_most_eight(words[at + 3])),
         6,
     )
 }
