@@ -1,31 +1,77 @@
--- What is noted leaves no fault exactly where there was none and it is none: one thing, and four words against four limits. Assumes nothing.
-use Prim.Native.Nat.{ℕ, _+_}
+-- What is noted leaves no fault exactly where there was none and it is none: one thing, a state, and four words against four limits.
+-- Assumes nothing.
+use Prim.Native.Nat.{ℕ, _+_, _<_, _≤_}
 use mathlib.Core.Bool.{Bool, true, false, not, _&&_, _||_, and-assoc}
 use mathlib.Core.List.{List}
 use mathlib.Core.Path.{_≡_, refl}
 use native.Mathlib.Nat.{add-zero}
+use native.Mathlib.Omega.{arith}
+use borrow.Author.Tests.{lt-ltb, le-ltb, ltb-true, ltb-false, leb-true, leb-false}
+use lib.Bits.{bitOr, or-lt, or-add-and, and-le-l, and-le-r}
 use lib.Dec.{leb, ltb}
 use Rattle.lists.specs.Upto.{allUpto}
 use Rattle.lists.proofs.UptoParts.{and-swap}
 use Rattle.layout.specs.Shape.{word}
 use Rattle.faults.specs.declared.Faults.{Faults}
-use Rattle.faults.specs.Limits.{none, within}
+use Rattle.faults.specs.Limits.{none, turned, within}
 use Rattle.faults.proofs.Tests.{over}
 
-noted : (a b c d e f : Bool)
-    → (not a && (not b && (not c && (not d && not (e || f))))) ≡ ((not a && (not b && (not c && (not d && not e)))) && not f)
-noted true b c d e f = refl
-noted false true c d e f = refl
-noted false false true d e f = refl
-noted false false false true e f = refl
-noted false false false false true f = refl
-noted false false false false false f = refl
+noted : (a b c d e s f : Bool)
+    → (not a && (not b && (not c && (not d && (not (e || f) && s)))))
+    ≡ ((not a && (not b && (not c && (not d && (not e && s))))) && not f)
+noted true b c d e s f = refl
+noted false true c d e s f = refl
+noted false false true d e s f = refl
+noted false false false true e s f = refl
+noted false false false false true s f = refl
+noted false false false false false true true = refl
+noted false false false false false true false = refl
+noted false false false false false false true = refl
+noted false false false false false false false = refl
 
 pub noted-none : (f : Faults) (b : Bool)
-    → none (record { first = f .first; second = f .second; third = f .third; fourth = f .fourth; other = f .other || b })
+    → none
+    (record {
+      first = f .first;
+      second = f .second;
+      third = f .third;
+      fourth = f .fourth;
+      other = f .other || b;
+      states = f .states;
+    })
     ≡ (none f && not b)
 unfolding none
-noted-none f b = noted (f .first) (f .second) (f .third) (f .fourth) (f .other) b
+noted-none f b = noted (f .first) (f .second) (f .third) (f .fourth) (f .other) (ltb (f .states) 8) b
+
+-- ---- the states met
+
+-- an or is no less than either
+or-most : (h s : ℕ) → (h ≤ bitOr h s) × (s ≤ bitOr h s)
+or-most h s = (omega (arith, or-add-and h s, and-le-r h s), omega (arith, or-add-and h s, and-le-l h s))
+
+states-met : (h s : ℕ) → ltb (bitOr h (s + 3)) 8 ≡ (ltb h 8 && leb s 4)
+states-met h s = go (ltb h 8) (leb s 4) refl refl
+  where
+    go : (x y : Bool) → ltb h 8 ≡ x → leb s 4 ≡ y → ltb (bitOr h (s + 3)) 8 ≡ (x && y)
+    go true true e q = lt-ltb (bitOr h (s + 3)) 8 (or-lt 3 h (s + 3) (ltb-true h 8 e) (omega (arith, leb-true)))
+    go true false e q = le-ltb (bitOr h (s + 3)) 8 (omega (arith, or-most h (s + 3), leb-false))
+    go false y e q = le-ltb (bitOr h (s + 3)) 8 (omega (arith, or-most h (s + 3), ltb-false))
+
+pub stated-none : (f : Faults) (s t : ℕ) → t ≡ s
+    → none
+    (record {
+      first = f .first;
+      second = f .second;
+      third = f .third;
+      fourth = f .fourth;
+      other = f .other;
+      states = bitOr (f .states) (t + 3);
+    })
+    ≡ (none f && leb s 4)
+unfolding none
+stated-none f s t e = rw (e, states-met (f .states) s) (simp and-assoc)
+
+-- ---- a piece
 
 -- one lane
 lane : (a w : Bool) → not (a || not w) ≡ (not a && w)
@@ -40,50 +86,57 @@ last true false true = refl
 last true false false = refl
 last false b c = refl
 
-lanes : (a b c d e w x y z : Bool)
-    → (not (a || not w) && (not (b || not x) && (not (c || not y) && (not (d || not z) && not e))))
-    ≡ ((not a && (not b && (not c && (not d && not e)))) && (((w && x) && y) && z))
-lanes a b c d e w x y z =
+lanes : (a b c d r w x y z : Bool)
+    → (not (a || not w) && (not (b || not x) && (not (c || not y) && (not (d || not z) && r))))
+    ≡ ((not a && (not b && (not c && (not d && r)))) && (((w && x) && y) && z))
+lanes a b c d r w x y z =
     rw (
       lane a w,
       lane b x,
       lane c y,
       lane d z,
-      last (not d) z (not e),
-      and-swap (not c) y (not d && not e) z,
-      and-swap (not b) x (not c && (not d && not e)) (y && z),
-      and-swap (not a) w (not b && (not c && (not d && not e))) (x && (y && z)),
+      last (not d) z r,
+      and-swap (not c) y (not d && r) z,
+      and-swap (not b) x (not c && (not d && r)) (y && z),
+      and-swap (not a) w (not b && (not c && (not d && r))) (x && (y && z)),
       and-assoc (w && x) y z,
       and-assoc w x (y && z),
     )
 
-pub piece-none : (f : Faults) (ws ls : List ℕ) (a b : ℕ)
+-- t to z: the four limits, turned back
+pub piece-none : (f : Faults) (ws ls : List ℕ) (a b t x y z : ℕ) → t ≡ turned (word ls b) → x ≡ turned (word ls (b + 1))
+    → y ≡ turned (word ls (b + 2)) → z ≡ turned (word ls (b + 3))
     → none
     (record {
-      first = f .first || ltb (word ls b) (word ws a);
-      second = f .second || ltb (word ls (b + 1)) (word ws (a + 1));
-      third = f .third || ltb (word ls (b + 2)) (word ws (a + 2));
-      fourth = f .fourth || ltb (word ls (b + 3)) (word ws (a + 3));
+      first = f .first || ltb t (word ws a);
+      second = f .second || ltb x (word ws (a + 1));
+      third = f .third || ltb y (word ws (a + 2));
+      fourth = f .fourth || ltb z (word ws (a + 3));
       other = f .other;
+      states = f .states;
     })
     ≡ (none f && within ws a ls b 4)
 unfolding none within allUpto
-piece-none f ws ls a b =
+piece-none f ws ls a b t x y z et ex ey ez =
     rw (
       add-zero a,
       add-zero b,
-      over (word ws a) (word ls b),
-      over (word ws (a + 1)) (word ls (b + 1)),
-      over (word ws (a + 2)) (word ls (b + 2)),
-      over (word ws (a + 3)) (word ls (b + 3)),
+      ← et,
+      ← ex,
+      ← ey,
+      ← ez,
+      over (word ws a) t,
+      over (word ws (a + 1)) x,
+      over (word ws (a + 2)) y,
+      over (word ws (a + 3)) z,
     )
     (lanes
     (f .first)
     (f .second)
     (f .third)
     (f .fourth)
-    (f .other)
-    (leb (word ws a) (word ls b))
-    (leb (word ws (a + 1)) (word ls (b + 1)))
-    (leb (word ws (a + 2)) (word ls (b + 2)))
-    (leb (word ws (a + 3)) (word ls (b + 3))))
+    (not (f .other) && ltb (f .states) 8)
+    (leb (word ws a) t)
+    (leb (word ws (a + 1)) x)
+    (leb (word ws (a + 2)) y)
+    (leb (word ws (a + 3)) z))

@@ -4,6 +4,7 @@ use mathlib.Core.Bool.{Bool, true, false, not}
 use mathlib.Core.Path.{_≡_, refl, sym, _∙_}
 use native.Mathlib.Omega.{arith}
 use borrow.Author.Tests.{lt-ltb, le-ltb, leb-true, leb-false}
+use Rattle.faults.specs.Limits.{turned, anyWord}
 use lib.Dec.{leb, ltb, eqb, leb·suc-zero, eqb·suc-zero}
 
 -- over a limit is not within it
@@ -25,3 +26,8 @@ below w n h = by (leb w (n - 1)) refl
 pub only-zero : (w : ℕ) → leb w 0 ≡ eqb w 0
 only-zero zero = refl
 only-zero (suc w) = leb·suc-zero w ∙ sym (eqb·suc-zero w)
+
+-- a number of 32 bits turned twice
+pub turned-back : (n : ℕ) → n ≤ anyWord → turned (turned n) ≡ n
+unfolding turned
+turned-back n h = omega arith

@@ -9,7 +9,7 @@ use lib.Dec.{leb}
 use Rattle.lists.specs.Upto.{allUpto}
 use Rattle.lists.proofs.UptoParts.{all-join}
 use Rattle.layout.specs.Shape.{word}
-use Rattle.faults.specs.Limits.{within}
+use Rattle.faults.specs.Limits.{turned, within}
 
 module _ (ws ls : List ℕ) (a b : ℕ) where
   pub within-start : (x : Bool) → x ≡ (x && within ws a ls b (4 * 0))
@@ -21,5 +21,5 @@ module _ (ws ls : List ℕ) (a b : ℕ) where
   unfolding within
   within-more i x y z hy hz =
       let e : 4 * (i + 1) ≡ 4 * i + 4 = omega arith in
-      let f : ℕ → Bool = λ j. leb (word ws (a + j)) (word ls (b + j)) in
+      let f : ℕ → Bool = λ j. leb (word ws (a + j)) (turned (word ls (b + j))) in
       rw (hz, hy, e, all-join f (4 * i) 4) (simp (add-assoc, and-assoc))

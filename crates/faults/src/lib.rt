@@ -1,17 +1,21 @@
-// Words against limits, four at a time and without a branch, so that the compiler makes vectors of it.
+// Words against limits, four at a time and without a branch, so that the compiler makes vectors of it. A limit is kept with its top bit
+// turned, as a vector compares it: it need not be turned again for each word.
 ghost use mathlib.Core.Path.{_≡_};
 ghost use mathlib.Core.Bool.{true, not, _&&_};
 ghost use Prim.Native.Nat.{_+_, _*_, _≤_};
 ghost use lib.ListN.{length};
-ghost use Rattle.faults.specs.Limits.{none, within};
+ghost use lib.Dec.{leb};
+ghost use Rattle.faults.specs.Limits.{none, turned, within};
 
-// Whether a word was over its limit, by the word's place in its piece of four, and whether anything else was amiss.
+// Whether a word was over its limit, by the word's place in its piece of four, whether anything else was amiss, and the states met: each
+// with 3 added, so that a bit above the lowest three is set by a state that is not one of 0 to 4.
 pub struct Faults {
     pub first: bool,
     pub second: bool,
     pub third: bool,
     pub fourth: bool,
     pub other: bool,
+    pub states: usize,
 }
 
 // No fault yet.
@@ -24,6 +28,7 @@ pub fn no_faults() -> Faults
         third: false,
         fourth: false,
         other: false,
+        states: 0,
     }
 }
 
@@ -31,7 +36,9 @@ pub fn no_faults() -> Faults
 pub fn is_clean(faults: Faults) -> bool
     ensures { λ r. ⌜ r ≡ none faults ⌝ }
 {
-    !faults.first & (!faults.second & (!faults.third & (!faults.fourth & !faults.other)))
+    !faults.first
+        & (!faults.second
+            & (!faults.third & (!faults.fourth & (!faults.other & (faults.states < 8)))))
 }
 
 // The faults and one more, if it is one.
@@ -44,7 +51,29 @@ pub fn noted(faults: Faults, fault: bool) -> Faults
         third: faults.third,
         fourth: faults.fourth,
         other: faults.other | fault,
+        states: faults.states,
     }
+}
+
+// The faults and one more, if the state is none of the five.
+pub fn stated(faults: Faults, state: u32) -> Faults
+    ensures { λ r. ⌜ none r ≡ (none faults && leb state 4) ⌝ }
+{
+    Faults {
+        first: faults.first,
+        second: faults.second,
+        third: faults.third,
+        fourth: faults.fourth,
+        other: faults.other,
+        states: faults.states | (layout::wide(state) + 3),
+    }
+}
+
+// A number with its top bit turned: a limit as it is kept, and as it was.
+pub fn turned(x: u32) -> u32
+    ensures { λ r. ⌜ r ≡ turned x ⌝ }
+{
+    std::num::wrapping_add_u32(x, 2147483648)
 }
 
 // Four words against four limits.
@@ -53,11 +82,12 @@ pub fn piece(faults: Faults, words: &[u32], at: usize, limits: &[u32], from: usi
     ensures { λ r. ⌜ none r ≡ (none faults && within (now (words .entry)) at (now (limits .entry)) from 4) ⌝ }
 {
     Faults {
-        first: faults.first | (words[at] > limits[from]),
-        second: faults.second | (words[at + 1] > limits[from + 1]),
-        third: faults.third | (words[at + 2] > limits[from + 2]),
-        fourth: faults.fourth | (words[at + 3] > limits[from + 3]),
+        first: faults.first | (words[at] > turned(limits[from])),
+        second: faults.second | (words[at + 1] > turned(limits[from + 1])),
+        third: faults.third | (words[at + 2] > turned(limits[from + 2])),
+        fourth: faults.fourth | (words[at + 3] > turned(limits[from + 3])),
         other: faults.other,
+        states: faults.states,
     }
 }
 

@@ -5,12 +5,17 @@ use mathlib.Core.List.{List, _∷_}
 use lib.ListN.{replicate}
 use lib.Dec.{leb}
 use Rattle.layout.specs.Shape.{word}
-use Rattle.faults.specs.Limits.{within, anyWord}
+use Rattle.faults.specs.Limits.{turned, within, anyWord}
 
--- by state, owner, guest, retiredAt and limbo: the last process may own; rows for states up to 7, so that a state's last three bits pick one
+-- by state, owner, guest, retiredAt and limbo: the last process may own; rows for states up to 7, so that a state's last three bits pick one; each limit is turned
 abbrev pub nodeLimits : ℕ → ℕ → List ℕ
 nodeLimits last clock =
-    0 ∷ 0 ∷ 0 ∷ 0 ∷ last ∷ anyWord ∷ 0 ∷ 0 ∷ 0 ∷ anyWord ∷ 0 ∷ 0 ∷ last ∷ anyWord ∷ 0 ∷ 0 ∷ last ∷ anyWord ∷ clock ∷ 2 ∷ replicate 12 0
+    turned 0 ∷ turned 0 ∷ turned 0 ∷ turned 0
+    ∷ turned last ∷ turned anyWord ∷ turned 0 ∷ turned 0
+    ∷ turned 0 ∷ turned anyWord ∷ turned 0 ∷ turned 0
+    ∷ turned last ∷ turned anyWord ∷ turned 0 ∷ turned 0
+    ∷ turned last ∷ turned anyWord ∷ turned clock ∷ turned 2
+    ∷ replicate 12 (turned 0)
 
 -- a node at place a
 unfoldable pub nodeWithin : List ℕ → List ℕ → ℕ → Bool

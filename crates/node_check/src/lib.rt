@@ -9,44 +9,48 @@ ghost use Rattle.layout.specs.Words.{nodesFit};
 ghost use Rattle.faults.specs.Limits.{none};
 ghost use Rattle.node_check.specs.NodeLimits.{nodeLimits, nodeWithin};
 
-// The limits of a node's words but the first, a row for each state; last is the last process.
+// The limits of a node's words but the first, a row for each state, turned; last is the last process.
 fn node_limits(last: u32, clock: u32) -> [u32; 32]
     ensures { λ r. ⌜ r ≡ nodeLimits last clock ⌝ }
 {
-    let any: u32 = 4294967295;
+    let none = faults::turned(0);
+    let owner = faults::turned(last);
+    let any = faults::turned(4294967295);
+    let time = faults::turned(clock);
+    let list = faults::turned(2);
     [
-        0,
-        0,
-        0,
-        0,
-        last,
+        none,
+        none,
+        none,
+        none,
+        owner,
         any,
-        0,
-        0,
-        0, // a Reachable node has no owner
+        none,
+        none,
+        none, // a Reachable node has no owner
         any,
-        0,
-        0,
-        last,
+        none,
+        none,
+        owner,
         any,
-        0, // a Removed node has no time of retirement
-        0,
-        last,
+        none, // a Removed node has no time of retirement
+        none,
+        owner,
         any,
-        clock,
-        2,
-        0,
-        0,
-        0,
-        0,
-        0,
-        0,
-        0,
-        0,
-        0,
-        0,
-        0,
-        0,
+        time,
+        list,
+        none,
+        none,
+        none,
+        none,
+        none,
+        none,
+        none,
+        none,
+        none,
+        none,
+        none,
+        none,
     ]
 }
 
@@ -57,7 +61,7 @@ fn node(faults: Faults, words: &[u32], at: usize, limits: &[u32]) -> Faults
 {
     let state = words[at];
     faults::piece(
-        faults::noted(faults, state > 4),
+        faults::stated(faults, state),
         words,
         at + 1,
         limits,

@@ -16,9 +16,9 @@ use Rattle.lists.proofs.UptoParts.{all-past, all-threes, all-both}
 use Rattle.layout.specs.Shape.{word, processStart}
 use Rattle.layout.specs.Codecs.{shape}
 use Rattle.layout.specs.Words.{hazardFits, storeFits, processFits, processesFit}
-use Rattle.faults.specs.Limits.{within, anyWord}
-use Rattle.process_check.specs.ProcessLimits.{leadLimits, sliding, backedAt, upToEight, processWithin, Ready}
-use Rattle.faults.proofs.Tests.{below, only-zero}
+use Rattle.faults.specs.Limits.{turned, within, anyWord}
+use Rattle.process_check.specs.ProcessLimits.{leadLimits, hazardLimits, storeLimits, backedAt, upToEight, processWithin, Ready}
+use Rattle.faults.proofs.Tests.{below, only-zero, turned-back}
 use Rattle.process_check.proofs.Tables.{slid, slid-past}
 
 -- what the four looks at a process leave
@@ -46,10 +46,10 @@ backed-fits (suc (suc d)) s h = rw (lt-leb (suc (suc d)) 1 (omega arith))
 up-to-eight : (s : ℕ) → s ≤ 8 → upToEight s ≡ s
 up-to-eight s h = by-cond (λ r. r ≡ s) (ltb s 8) (λ _. refl) (λ q. omega (arith, ltb-false))
 
-module _ (ws : List ℕ) (words : (j : ℕ) → word ws j ≤ anyWord) (k m : ℕ) (few : k ≤ 8) where
+module _ (ws : List ℕ) (words : (j : ℕ) → word ws j ≤ anyWord) (k m : ℕ) (hm : m ≤ anyWord) (few : k ≤ 8) where
   -- the word j of the hazards from place a on within its limit
   abbrev inHazards : ℕ → ℕ → Bool
-  inHazards a j = leb (word ws (a + j)) (word (sliding m m 1 anyWord) (24 - 3 * k + j))
+  inHazards a j = leb (word ws (a + j)) (turned (word (hazardLimits m) (24 - 3 * k + j)))
 
   -- hazard h is not validated with nothing assigned
   abbrev isBacked : ℕ → ℕ → Bool
@@ -62,30 +62,32 @@ module _ (ws : List ℕ) (words : (j : ℕ) → word ws j ≤ anyWord) (k m : �
   unfolding hazardFits
   hazard-fits a h l =
       rw (
-        slid m m 1 anyWord k few (3 * h) h 0 (omega arith) l (omega arith),
-        slid m m 1 anyWord k few (3 * h + 1) h 1 (omega arith) l (omega arith),
-        slid m m 1 anyWord k few (3 * h + 2) h 2 (omega arith) l (omega arith),
+        slid (turned m) (turned m) (turned 1) (turned anyWord) k few (3 * h) h 0 (omega arith) l (omega arith),
+        slid (turned m) (turned m) (turned 1) (turned anyWord) k few (3 * h + 1) h 1 (omega arith) l (omega arith),
+        slid (turned m) (turned m) (turned 1) (turned anyWord) k few (3 * h + 2) h 2 (omega arith) l (omega arith),
+        turned-back m hm,
+        turned-back 1 (omega arith),
         ← add-assoc a (3 * h) 1,
         ← add-assoc a (3 * h) 2,
       )
       (simp and-assoc (rw (backed-fits (word ws (a + 3 * h + 2)) (word ws (a + 3 * h + 1)) (words (a + 3 * h + 1)))))
 
-  hazards-fit : (a : ℕ) → (within ws a (sliding m m 1 anyWord) (24 - 3 * k) 24 && backedAt ws a k)
+  hazards-fit : (a : ℕ) → (within ws a (hazardLimits m) (24 - 3 * k) 24 && backedAt ws a k)
       ≡ allUpto (λ h. hazardFits m ws (a + 3 * h)) k
   unfolding within backedAt
   hazards-fit a =
       let e : 24 ≡ 3 * k + (24 - 3 * k) = omega arith in
       let past = all-past (inHazards a) (3 * k) (24 - 3 * k)
-      (λ i l u. rw (slid-past m m 1 anyWord k few i l (omega arith)) (le-leb (word ws (a + i)) anyWord (words (a + i)))) in
+      (λ i l u. rw (slid-past (turned m) (turned m) (turned 1) (turned anyWord) k few i l (omega arith), turned-back anyWord (omega arith)) (le-leb (word ws (a + i)) anyWord (words (a + i)))) in
       let f : ℕ → Bool = λ h. inHazards a (3 * h) && (inHazards a (3 * h + 1) && inHazards a (3 * h + 2)) in
       let g : ℕ → Bool = isBacked a in
       rw (ap (allUpto (inHazards a)) e ∙ past ∙ all-threes (inHazards a) k, all-both f g k)
       (all-ext (λ h. f h && g h) (λ h. hazardFits m ws (a + 3 * h)) k (hazard-fits a))
 
-module _ (ws : List ℕ) (s k m clock : ℕ) (some' : 1 ≤ k) (few : s ≤ 8) where
+module _ (ws : List ℕ) (s k m clock : ℕ) (hk : k ≤ 8) (hm : m ≤ anyWord) (hc : clock ≤ anyWord) (some' : 1 ≤ k) (few : s ≤ 8) where
   -- the word j of the buffer from place a on within its limit
   abbrev inBuffer : ℕ → ℕ → Bool
-  inBuffer a j = leb (word ws (a + j)) (word (sliding (k - 1) m clock 0) (24 - 3 * s + j))
+  inBuffer a j = leb (word ws (a + j)) (turned (word (storeLimits (k - 1) m clock) (24 - 3 * s + j)))
 
   store-fits : (a e : ℕ) → e < 8 → (inBuffer a (3 * e) && (inBuffer a (3 * e + 1) && inBuffer a (3 * e + 2))) ≡ storeFits s k m clock ws (a + 3 * e) e
   unfolding storeFits
@@ -99,9 +101,12 @@ module _ (ws : List ℕ) (s k m clock : ℕ) (some' : 1 ≤ k) (few : s ≤ 8) w
       go true h =
           let i : e < s = ltb-true e s h in
           rw (
-            slid (k - 1) m clock 0 s few (3 * e) e 0 (omega arith) i (omega arith),
-            slid (k - 1) m clock 0 s few (3 * e + 1) e 1 (omega arith) i (omega arith),
-            slid (k - 1) m clock 0 s few (3 * e + 2) e 2 (omega arith) i (omega arith),
+            slid (turned (k - 1)) (turned m) (turned clock) (turned 0) s few (3 * e) e 0 (omega arith) i (omega arith),
+            slid (turned (k - 1)) (turned m) (turned clock) (turned 0) s few (3 * e + 1) e 1 (omega arith) i (omega arith),
+            slid (turned (k - 1)) (turned m) (turned clock) (turned 0) s few (3 * e + 2) e 2 (omega arith) i (omega arith),
+            turned-back (k - 1) (omega arith),
+            turned-back m hm,
+            turned-back clock hc,
             ← add-assoc a (3 * e) 1,
             ← add-assoc a (3 * e) 2,
             below (word ws (a + 3 * e)) k some',
@@ -109,15 +114,16 @@ module _ (ws : List ℕ) (s k m clock : ℕ) (some' : 1 ≤ k) (few : s ≤ 8) w
       go false h =
           let i : s ≤ e = ltb-false e s h in
           rw (
-            slid-past (k - 1) m clock 0 s few (3 * e) (omega arith) (omega arith),
-            slid-past (k - 1) m clock 0 s few (3 * e + 1) (omega arith) (omega arith),
-            slid-past (k - 1) m clock 0 s few (3 * e + 2) (omega arith) (omega arith),
+            slid-past (turned (k - 1)) (turned m) (turned clock) (turned 0) s few (3 * e) (omega arith) (omega arith),
+            slid-past (turned (k - 1)) (turned m) (turned clock) (turned 0) s few (3 * e + 1) (omega arith) (omega arith),
+            slid-past (turned (k - 1)) (turned m) (turned clock) (turned 0) s few (3 * e + 2) (omega arith) (omega arith),
+            turned-back 0 (omega arith),
             ← add-assoc a (3 * e) 1,
             ← add-assoc a (3 * e) 2,
           )
           (simp only-zero)
 
-  stores-fit : (a : ℕ) → within ws a (sliding (k - 1) m clock 0) (24 - 3 * upToEight s) 24 ≡ allUpto (λ e. storeFits s k m clock ws (a + 3 * e) e) 8
+  stores-fit : (a : ℕ) → within ws a (storeLimits (k - 1) m clock) (24 - 3 * upToEight s) 24 ≡ allUpto (λ e. storeFits s k m clock ws (a + 3 * e) e) 8
   unfolding within
   stores-fit a =
       let z = up-to-eight s few in
@@ -131,33 +137,42 @@ module _ (ws : List ℕ) (s k m clock : ℕ) (some' : 1 ≤ k) (few : s ≤ 8) w
 joined : (x z : Bool) {y u v : Bool} → (x && z) ≡ u → y ≡ v → (x && (y && z)) ≡ (u && v)
 joined x z {y} h k = rw (and-comm y z, ← h, ← k) (sym (and-assoc x z y))
 
-module _ (ws : List ℕ) (words : (j : ℕ) → word ws j ≤ anyWord) (k m q clock a : ℕ) (some' : 1 ≤ k) (few : k ≤ 8) (quiescence : 1 ≤ q) where
+module _ (ws : List ℕ) (words : (j : ℕ) → word ws j ≤ anyWord) (k m q clock a : ℕ) (hm : m ≤ anyWord) (hq : q ≤ anyWord) (hc : clock ≤ anyWord) (some' : 1 ≤ k) (few : k ≤ 8) (quiescence : 1 ≤ q) where
   lead-fits : within ws a (leadLimits (q - 1)) 0 4
       ≡ (leb (word ws a) 2 && (ltb (word ws (a + 1)) q && (leb (word ws (a + 2)) 1 && leb (word ws (a + 3)) 8)))
   unfolding within allUpto
-  lead-fits = rw (add-zero a, below (word ws (a + 1)) q quiescence) (simp and-assoc)
+  lead-fits =
+      rw (
+        turned-back 2 (omega arith),
+        turned-back (q - 1) (omega arith),
+        turned-back 1 (omega arith),
+        turned-back 8 (omega arith),
+        add-zero a,
+        below (word ws (a + 1)) q quiescence,
+      )
+      (simp and-assoc)
 
   -- more than eight stores fit no buffer, whatever stands in it
   rest-fits : (b : Bool) → leb (word ws (a + 3)) 8 ≡ b
       → (b
-      && (within ws (a + 4) (sliding m m 1 anyWord) (24 - 3 * k) 24
-      && (within ws (a + (4 + 3 * k)) (sliding (k - 1) m clock 0) (24 - 3 * upToEight (word ws (a + 3))) 24 && backedAt ws (a + 4) k)))
+      && (within ws (a + 4) (hazardLimits m) (24 - 3 * k) 24
+      && (within ws (a + (4 + 3 * k)) (storeLimits (k - 1) m clock) (24 - 3 * upToEight (word ws (a + 3))) 24 && backedAt ws (a + 4) k)))
       ≡ (b
       && (allUpto (λ h. hazardFits m ws (a + 4 + 3 * h)) k
       && allUpto (λ e. storeFits (word ws (a + 3)) k m clock ws (a + (4 + 3 * k) + 3 * e) e) 8))
   rest-fits false e = refl
   rest-fits true e =
       joined
-      (within ws (a + 4) (sliding m m 1 anyWord) (24 - 3 * k) 24)
+      (within ws (a + 4) (hazardLimits m) (24 - 3 * k) 24)
       (backedAt ws (a + 4) k)
-      (hazards-fit ws words k m few (a + 4))
-      (stores-fit ws (word ws (a + 3)) k m clock some' (leb-true (word ws (a + 3)) 8 e) (a + (4 + 3 * k)))
+      (hazards-fit ws words k m hm few (a + 4))
+      (stores-fit ws (word ws (a + 3)) k m clock few hm hc some' (leb-true (word ws (a + 3)) 8 e) (a + (4 + 3 * k)))
 
-  pub process-fits : processWithin (leadLimits (q - 1)) (sliding m m 1 anyWord) (sliding (k - 1) m clock 0) k ws a ≡ processFits k m q clock ws a
+  pub process-fits : processWithin (leadLimits (q - 1)) (hazardLimits m) (storeLimits (k - 1) m clock) k ws a ≡ processFits k m q clock ws a
   unfolding processWithin processFits
   process-fits =
-      let late : Bool = within ws (a + 4) (sliding m m 1 anyWord) (24 - 3 * k) 24
-      && within ws (a + 4 + 3 * k) (sliding (k - 1) m clock 0) (24 - 3 * upToEight (word ws (a + 3))) 24 in
+      let late : Bool = within ws (a + 4) (hazardLimits m) (24 - 3 * k) 24
+      && within ws (a + 4 + 3 * k) (storeLimits (k - 1) m clock) (24 - 3 * upToEight (word ws (a + 3))) 24 in
       rw (
         and-comm (backedAt ws (a + 4) k) (within ws a (leadLimits (q - 1)) 0 4 && late),
         lead-fits,
@@ -171,14 +186,14 @@ abbrev pub fits : List ℕ → ℕ → Bool
 fits ws p = processFits (word ws 1) (word ws 2) (word ws 4) (word ws 6) ws (processStart shape (word ws 1) p)
 
 pub process-turn : (ws : List ℕ) → ((j : ℕ) → word ws j ≤ anyWord) → Ready ws → (lead hazards stores : List ℕ) (k at p : ℕ) (x y : Bool)
-    → k ≡ word ws 1 → lead ≡ leadLimits (word ws 4 - 1) → hazards ≡ sliding (word ws 2) (word ws 2) 1 anyWord
-    → stores ≡ sliding (word ws 1 - 1) (word ws 2) (word ws 6) 0 → at ≡ processStart shape (word ws 1) p → x ≡ allUpto (fits ws) p
+    → k ≡ word ws 1 → lead ≡ leadLimits (word ws 4 - 1) → hazards ≡ hazardLimits (word ws 2)
+    → stores ≡ storeLimits (word ws 1 - 1) (word ws 2) (word ws 6) → at ≡ processStart shape (word ws 1) p → x ≡ allUpto (fits ws) p
     → y ≡ (x && processWithin lead hazards stores k ws at) → y ≡ allUpto (fits ws) (p + 1)
 process-turn ws words ready lead hazards stores k at p x y ek el eh es ea hx hy =
     let a : ℕ = processStart shape (word ws 1) p in
     let h : 1 ≤ word ws 1 = ready .sizes .hazards .0 in
     let l : word ws 1 ≤ 8 = ready .sizes .hazards .1 in
-    rw (hy, ek, el, eh, es, ea, process-fits ws words (word ws 1) (word ws 2) (word ws 4) (word ws 6) a h l (ready .quiescence))
+    rw (hy, ek, el, eh, es, ea, process-fits ws words (word ws 1) (word ws 2) (word ws 4) (word ws 6) a (words 2) (words 4) (words 6) h l (ready .quiescence))
     (all-more (fits ws) p x hx)
 
 pub processes-end : (ws : List ℕ) (p : ℕ) (x y : Bool) → p ≡ word ws 0 → x ≡ allUpto (fits ws) p → y ≡ x → y ≡ processesFit ws

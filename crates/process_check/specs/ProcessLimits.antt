@@ -7,11 +7,11 @@ use lib.Dec.{ltb, eqb}
 use Rattle.lists.specs.Upto.{allUpto}
 use Rattle.layout.specs.Shape.{word}
 use Rattle.layout.specs.Sound.{Sizes}
-use Rattle.faults.specs.Limits.{within}
+use Rattle.faults.specs.Limits.{turned, within, anyWord}
 
--- epoch, calls, presence and stores of a process
+-- epoch, calls, presence and stores of a process; each limit is turned
 abbrev pub leadLimits : ℕ → List ℕ
-leadLimits last = 2 ∷ last ∷ 1 ∷ 8 ∷ []
+leadLimits last = turned 2 ∷ turned last ∷ turned 1 ∷ turned 8 ∷ []
 
 -- three limits over and over, then others
 abbrev pub threes : ℕ → ℕ → ℕ → ℕ → List ℕ → List ℕ
@@ -21,6 +21,14 @@ threes a b c (suc n) others = a ∷ b ∷ c ∷ threes a b c n others
 -- eight times three limits and then 24 times one: read from 24 - 3 * n on it limits n times three words, and the others of 24 by that one
 abbrev pub sliding : ℕ → ℕ → ℕ → ℕ → List ℕ
 sliding a b c rest = threes a b c 8 (replicate 24 rest)
+
+-- visible, assigned and validated of each hazard; any word past them
+abbrev pub hazardLimits : ℕ → List ℕ
+hazardLimits m = sliding (turned m) (turned m) (turned 1) (turned anyWord)
+
+-- hazard, node and time of each pending store; 0 past them
+abbrev pub storeLimits : ℕ → ℕ → ℕ → List ℕ
+storeLimits last m clock = sliding (turned last) (turned m) (turned clock) (turned 0)
 
 -- in none of the k hazards from place a on is validated 1 with 0 assigned; the two words are taken as one number
 unfoldable pub backedAt : List ℕ → ℕ → ℕ → Bool

@@ -6,7 +6,8 @@ ghost use Prim.Native.Nat.{_+_, _*_, _≤_};
 ghost use lib.ListN.{length};
 ghost use Rattle.layout.specs.Words.{processesFit};
 ghost use Rattle.faults.specs.Limits.{none};
-ghost use Rattle.process_check.specs.ProcessLimits.{sliding, backedAt, upToEight, processWithin, Ready};
+ghost use Rattle.process_check.specs.ProcessLimits.{leadLimits, sliding, hazardLimits, storeLimits};
+ghost use Rattle.process_check.specs.ProcessLimits.{backedAt, upToEight, processWithin, Ready};
 
 // Eight times three limits, then 24 times one.
 fn slide(a: u32, b: u32, c: u32, rest: u32) -> [u32; 48]
@@ -64,6 +65,38 @@ fn slide(a: u32, b: u32, c: u32, rest: u32) -> [u32; 48]
     ]
 }
 
+// The limits of a process's first four words; last is the last count of calls.
+fn lead_limits(last: u32) -> [u32; 4]
+    ensures { λ r. ⌜ r ≡ leadLimits last ⌝ }
+{
+    let epoch = faults::turned(2);
+    let calls = faults::turned(last);
+    let presence = faults::turned(1);
+    let stores = faults::turned(8);
+    [epoch, calls, presence, stores]
+}
+
+// The limits of a process's hazards.
+fn hazard_limits(m: u32) -> [u32; 48]
+    ensures { λ r. ⌜ r ≡ hazardLimits m ⌝ }
+{
+    let node = faults::turned(m);
+    let validated = faults::turned(1);
+    let past = faults::turned(4294967295);
+    slide(node, node, validated, past)
+}
+
+// The limits of a process's pending stores; last is the last hazard.
+fn store_limits(last: u32, m: u32, clock: u32) -> [u32; 48]
+    ensures { λ r. ⌜ r ≡ storeLimits last m clock ⌝ }
+{
+    let hazard = faults::turned(last);
+    let node = faults::turned(m);
+    let time = faults::turned(clock);
+    let past = faults::turned(0);
+    slide(hazard, node, time, past)
+}
+
 // Whether none of k hazards, the words from `at` on, is validated with no node assigned: the two words are compared at once.
 fn backed(words: &[u32], at: usize, k: usize) -> bool
     requires { ⌜ at + 3 * k ≤ length (now words) ⌝ }
@@ -119,9 +152,9 @@ pub fn processes_fit(words: &[u32]) -> bool
 {
     let count = layout::wide(words[0]);
     let k = layout::wide(words[1]);
-    let lead = [2, words[4] - 1, 1, 8];
-    let hazards = slide(words[2], words[2], 1, 4294967295);
-    let stores = slide(words[1] - 1, words[2], words[6], 0);
+    let lead = lead_limits(words[4] - 1);
+    let hazards = hazard_limits(words[2]);
+    let stores = store_limits(words[1] - 1, words[2], words[6]);
     let mut faults = faults::no_faults();
     let mut at = 9;
     let mut p = 0;

@@ -10,68 +10,81 @@ mul-t6 c = search needs
 shared-slice-read-t8 : tie.Need-shared-slice-read-t8
 shared-slice-read-t8 c = search needs
 
-mul-t9 : tie.Need-mul-t9
-mul-t9 c = search needs
+mul-turned : tie.Need-mul-turned
+mul-turned c = search needs
 
-shared-slice-read-t11 : tie.Need-shared-slice-read-t11
-shared-slice-read-t11 c = search needs
+shared-slice-read-turned : tie.Need-shared-slice-read-turned
+shared-slice-read-turned c = search needs
 
-add-t14 : tie.Need-add-t14
-add-t14 c = search needs
+turned-requires : tie.Need-turned-requires
+turned-requires c κs = search needs
 
-mul-t15 : tie.Need-mul-t15
-mul-t15 c = search needs
+add-t15 : tie.Need-add-t15
+add-t15 c = search needs
 
-shared-slice-read-t17 : tie.Need-shared-slice-read-t17
-shared-slice-read-t17 c = search needs
+mul-t16 : tie.Need-mul-t16
+mul-t16 c = search needs
 
-add-t18 : tie.Need-add-t18
-add-t18 c = search needs
+shared-slice-read-t18 : tie.Need-shared-slice-read-t18
+shared-slice-read-t18 c = search needs
 
-mul-t19 : tie.Need-mul-t19
-mul-t19 c = search needs
+add-turned : tie.Need-add-turned
+add-turned c = search needs
 
-shared-slice-read-t21 : tie.Need-shared-slice-read-t21
-shared-slice-read-t21 c = search needs
+mul-turned-2 : tie.Need-mul-turned-2
+mul-turned-2 c = search needs
 
-add-t24 : tie.Need-add-t24
-add-t24 c = search needs
+shared-slice-read-turned-2 : tie.Need-shared-slice-read-turned-2
+shared-slice-read-turned-2 c = search needs
 
-mul-t25 : tie.Need-mul-t25
-mul-t25 c = search needs
+turned-requires-2 : tie.Need-turned-requires-2
+turned-requires-2 c κs = search needs
 
-shared-slice-read-t27 : tie.Need-shared-slice-read-t27
-shared-slice-read-t27 c = search needs
+add-t26 : tie.Need-add-t26
+add-t26 c = search needs
 
-add-t28 : tie.Need-add-t28
-add-t28 c = search needs
+mul-t27 : tie.Need-mul-t27
+mul-t27 c = search needs
 
-mul-t29 : tie.Need-mul-t29
-mul-t29 c = search needs
+shared-slice-read-t29 : tie.Need-shared-slice-read-t29
+shared-slice-read-t29 c = search needs
 
-shared-slice-read-t31 : tie.Need-shared-slice-read-t31
-shared-slice-read-t31 c = search needs
+add-turned-2 : tie.Need-add-turned-2
+add-turned-2 c = search needs
 
-add-t34 : tie.Need-add-t34
-add-t34 c = search needs
+mul-turned-3 : tie.Need-mul-turned-3
+mul-turned-3 c = search needs
 
-mul-t35 : tie.Need-mul-t35
-mul-t35 c = search needs
+shared-slice-read-turned-3 : tie.Need-shared-slice-read-turned-3
+shared-slice-read-turned-3 c = search needs
 
-shared-slice-read-t37 : tie.Need-shared-slice-read-t37
-shared-slice-read-t37 c = search needs
+turned-requires-3 : tie.Need-turned-requires-3
+turned-requires-3 c κs = search needs
 
-add-t38 : tie.Need-add-t38
-add-t38 c = search needs
+add-t37 : tie.Need-add-t37
+add-t37 c = search needs
 
-mul-t39 : tie.Need-mul-t39
-mul-t39 c = search needs
+mul-t38 : tie.Need-mul-t38
+mul-t38 c = search needs
 
-shared-slice-read-t41 : tie.Need-shared-slice-read-t41
-shared-slice-read-t41 c = search needs
+shared-slice-read-t40 : tie.Need-shared-slice-read-t40
+shared-slice-read-t40 c = search needs
+
+add-turned-3 : tie.Need-add-turned-3
+add-turned-3 c = search needs
+
+mul-turned-4 : tie.Need-mul-turned-4
+mul-turned-4 c = search needs
+
+shared-slice-read-turned-4 : tie.Need-shared-slice-read-turned-4
+shared-slice-read-turned-4 c = search needs
+
+turned-requires-4 : tie.Need-turned-requires-4
+turned-requires-4 c κs = search needs
 
 returns : tie.Need-returns
-returns c = piece-none _ _ _ _ _
+returns c =
+    piece-none _ _ _ _ _ _ _ _ _ (c .before .before .before .before .before .before .before .before .before .before .before .before .before .turned .ensures) (c .before .before .before .before .before .before .before .before .before .turned2 .ensures) (c .before .before .before .before .before .turned3 .ensures) (c .before .turned4 .ensures)
 
 pub piece-spec : {M : Type 1} → statement M
 piece-spec =
@@ -79,24 +92,28 @@ piece-spec =
     (tie.spec
     mul-t6
     shared-slice-read-t8
-    mul-t9
-    shared-slice-read-t11
-    add-t14
-    mul-t15
-    shared-slice-read-t17
-    add-t18
-    mul-t19
-    shared-slice-read-t21
-    add-t24
-    mul-t25
-    shared-slice-read-t27
-    add-t28
-    mul-t29
-    shared-slice-read-t31
-    add-t34
-    mul-t35
-    shared-slice-read-t37
-    add-t38
-    mul-t39
-    shared-slice-read-t41
+    mul-turned
+    shared-slice-read-turned
+    turned-requires
+    add-t15
+    mul-t16
+    shared-slice-read-t18
+    add-turned
+    mul-turned-2
+    shared-slice-read-turned-2
+    turned-requires-2
+    add-t26
+    mul-t27
+    shared-slice-read-t29
+    add-turned-2
+    mul-turned-3
+    shared-slice-read-turned-3
+    turned-requires-3
+    add-t37
+    mul-t38
+    shared-slice-read-t40
+    add-turned-3
+    mul-turned-4
+    shared-slice-read-turned-4
+    turned-requires-4
     returns)

@@ -11,8 +11,8 @@ mul-state c = search needs
 shared-slice-read-state : tie.Need-shared-slice-read-state
 shared-slice-read-state c = search needs
 
-noted-requires : tie.Need-noted-requires
-noted-requires c κs = search needs
+stated-requires : tie.Need-stated-requires
+stated-requires c κs = search needs
 
 add-piece : tie.Need-add-piece
 add-piece c = search needs
@@ -27,7 +27,7 @@ piece-requires : tie.Need-piece-requires
 piece-requires c κs = search needs
 
 returns : tie.Need-returns
-returns c = node-none _ _ _ _ (none (c .before .before .before .before .before .before .args .faults)) _ _ (c .before .before .noted .ensures) (c .before .wide .ensures .0) (c .piece .ensures)
+returns c = node-none _ _ _ _ (none (c .before .before .before .before .before .before .args .faults)) _ _ (c .before .before .stated .ensures) (c .before .wide .ensures .0) (c .piece .ensures)
 
 pub node-spec : {M : Type 1} → statement M
-node-spec = tie.close (tie.spec mul-state shared-slice-read-state noted-requires add-piece wide-requires mul-piece piece-requires returns)
+node-spec = tie.close (tie.spec mul-state shared-slice-read-state stated-requires add-piece wide-requires mul-piece piece-requires returns)

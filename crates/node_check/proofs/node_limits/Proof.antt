@@ -1,0 +1,33 @@
+-- `node_check::node_limits` meets its contract: five numbers turned, in their rows. Assumes nothing.
+use borrow.Author.Needs.{needs}
+use Rattle.node_check.proofs.node_limits.Statement.{statement}
+use Rattle.node_check.proofs.node_limits.Tie as tie
+
+turned-requires : tie.Need-turned-requires
+turned-requires c κs = search needs
+
+turned-requires-2 : tie.Need-turned-requires-2
+turned-requires-2 c κs = search needs
+
+turned-requires-3 : tie.Need-turned-requires-3
+turned-requires-3 c κs = search needs
+
+turned-requires-4 : tie.Need-turned-requires-4
+turned-requires-4 c κs = search needs
+
+turned-requires-5 : tie.Need-turned-requires-5
+turned-requires-5 c κs = search needs
+
+returns : tie.Need-returns
+returns c = rw (c .before .before .before .before .turned .ensures, c .before .before .before .turned2 .ensures, c .before .before .turned3 .ensures, c .before .turned4 .ensures, c .turned5 .ensures)
+
+pub node-limits-spec : {M : Type 1} → statement M
+node-limits-spec =
+    tie.close
+    (tie.spec
+    turned-requires
+    turned-requires-2
+    turned-requires-3
+    turned-requires-4
+    turned-requires-5
+    returns)
