@@ -40,11 +40,6 @@ module _ {A : Type 0} (f : ℕ → A → Bool) where
     abbrev pub sweptTo : ℕ → ℕ → List A → List A
     sweptTo k i l = sweepFrom z f k (take i l) ++ drop i l
 
-    pub swept-length : (k i : ℕ) (l : List A) → length (sweptTo k i l) ≡ length l
-    swept-length k zero l = refl
-    swept-length k (suc i) [] = refl
-    swept-length k (suc i) (x ∷ xs) = ap suc (swept-length (suc k) i xs)
-
     pub swept-at : (k i : ℕ) (l : List A) (d : A) → getD (sweptTo k i l) i d ≡ getD l i d
     swept-at k zero l d = refl
     swept-at k (suc i) [] d = refl

@@ -13,7 +13,8 @@ use Rattle.lists.specs.Tests.{countFrom, All}
 use Rattle.lists.specs.Rows.{rows}
 use Rattle.lists.specs.Sweep.{setEach}
 use Rattle.lists.proofs.Facts.{all-at, all-snoc}
-use Rattle.lists.proofs.Turns.{one-most, count-from-turn, sweptTo, swept-turn, swept-kept, each-length, each-more, each-turn}
+use Rattle.lists.proofs.Turns.{one-most, count-from-turn, sweptTo, swept-turn, swept-kept, each-length, each-more}
+use Rattle.lists.proofs.Turns.{each-turn}
 use Rattle.lists.proofs.Compares.{ltb-swap}
 use Rattle.model.specs.State.{Node, freeNode}
 use Rattle.layout.specs.Shape.{nodeWords}

@@ -43,8 +43,8 @@ fn expired(nodes: &[u32], m: u32, c: NodeId, p: ProcessId, epoch: u32) -> bool
     counts::retired_by(nodes, m, c, p) & (nodes[at + 4] == epoch)
 }
 
-// Notes place i after the `count` places noted before, and answers how many are noted if it counts, which it does where the test is
-// passed. There is no branch.
+// Writes place i after the `count` places that are noted, and answers how many are noted now: i is one of them where the test is
+// passed. There is no branch, since the nodes that pass may stand anywhere.
 fn note(places: &mut [u8; 256], count: u32, i: u32, passed: bool) -> u32
     requires { ⌜ (count ≤ i) × (i < 256) ⌝ }
     ensures { λ r. ⌜ (now (places .exit) ≡ set (now (places .entry)) count i) × (r ≡ count + cond passed 1 0) ⌝ }
@@ -68,7 +68,7 @@ fn free(nodes: &mut [u32], m: u32, c: NodeId)
     nodes::put(nodes, m, c, x);
 }
 
-// Frees the nodes at the first `count` places.
+// Frees the nodes at the `count` places that are noted.
 fn free_noted(nodes: &mut [u32], m: u32, places: &[u8; 256], count: u32)
     requires { ⌜ Part m (now nodes) × Places m (now places) count ⌝ }
     ensures { λ _. ⌜ now (nodes .exit) ≡ freedAt (take count (now (places .entry))) m (now (nodes .entry)) ⌝ }
