@@ -1,4 +1,6 @@
 -- `sweeps::note` meets its contract: `wide` gives where the place is written, `one_if` what it counts for. Assumes nothing.
+use Prim.Native.Nat.{ℕ, _+_}
+use mathlib.Core.Path.{ap}
 use borrow.Author.Needs.{needs}
 use Rattle.sweeps.proofs.note.Statement.{statement}
 use Rattle.sweeps.proofs.note.Tie as tie
@@ -19,7 +21,7 @@ add-result : tie.Need-add-result
 add-result c = search needs
 
 returns : tie.Need-returns
-returns c = (rw (c .before .wide .ensures .0), rw (c .one-if .ensures .0))
+returns c = (rw (c .before .wide .ensures .0), ap (λ (n : ℕ). c .before .before .args .count + n) (c .one-if .ensures .0))
 
 pub note-spec : {M : Type 1} → statement M
 note-spec =
