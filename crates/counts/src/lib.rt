@@ -16,7 +16,7 @@ const REACHABLE: u32 = 2;
 const RETIRED: u32 = 4;
 
 // 1 for a test that is passed.
-fn one_if(b: bool) -> u32
+pub fn one_if(b: bool) -> u32
     ensures { λ r. ⌜ (r ≡ cond b 1 0) × (r ≤ 1) ⌝ }
 {
     if b { 1 } else { 0 }

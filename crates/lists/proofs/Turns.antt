@@ -1,13 +1,15 @@
--- A loop that goes through a list once: a count and a sweep of the places it has passed, and a turn more. Assumes nothing.
+-- A loop that goes through a list once: a count and a sweep of the places it has passed, and a turn more; and one that replaces
+-- elements, place by place. Assumes nothing.
 use Prim.Native.Nat.{ℕ, zero, suc, _+_, _<_}
 use mathlib.Core.Bool.{Bool, true, false, cond}
 use mathlib.Core.List.{List, [], _∷_, _++_}
 use mathlib.Core.Path.{_≡_, refl, sym, _∙_, ap, subst}
 use native.Mathlib.Omega.{arith}
 use native.Mathlib.Nat.{suc-add, add-suc, add-zero}
-use lib.ListN.{length, getD, set, take, drop}
+use lib.ListN.{length, getD, set, take, drop, length-set}
+use lib.Seq.{set-getD, take-suc}
 use Rattle.lists.specs.Tests.{count, countFrom}
-use Rattle.lists.specs.Sweep.{sweepFrom}
+use Rattle.lists.specs.Sweep.{sweepFrom, setEach}
 
 -- a test that is passed counts for one at most
 pub one-most : (b : Bool) → cond b 1 0 < 2
@@ -38,11 +40,6 @@ module _ {A : Type 0} (f : ℕ → A → Bool) where
     abbrev pub sweptTo : ℕ → ℕ → List A → List A
     sweptTo k i l = sweepFrom z f k (take i l) ++ drop i l
 
-    pub swept-length : (k i : ℕ) (l : List A) → length (sweptTo k i l) ≡ length l
-    swept-length k zero l = refl
-    swept-length k (suc i) [] = refl
-    swept-length k (suc i) (x ∷ xs) = ap suc (swept-length (suc k) i xs)
-
     pub swept-at : (k i : ℕ) (l : List A) (d : A) → getD (sweptTo k i l) i d ≡ getD l i d
     swept-at k zero l d = refl
     swept-at k (suc i) [] d = refl
@@ -55,3 +52,25 @@ module _ {A : Type 0} (f : ℕ → A → Bool) where
     swept-turn k (x ∷ xs) (suc i) d h =
         further (λ b. set (sweptTo k (suc i) (x ∷ xs)) (suc i) (cond b z (getD xs i d)) ≡ sweptTo k (suc (suc i)) (x ∷ xs)) k i (getD xs i d)
         (ap (λ (r : List A). cond (f k x) z x ∷ r) (swept-turn (suc k) xs i d (omega arith)))
+
+    -- a place that does not pass
+    pub swept-kept : (k : ℕ) (l : List A) (i : ℕ) (d : A) → i < length l → f (k + i) (getD l i d) ≡ false
+        → sweptTo k i l ≡ sweptTo k (suc i) l
+    swept-kept k l i d h e =
+        sym (set-getD (sweptTo k i l) i d)
+        ∙ ap (λ (x : A). set (sweptTo k i l) i x) (swept-at k i l d ∙ rw e)
+        ∙ swept-turn k l i d h
+
+module _ {A : Type 0} (z : A) where
+  pub each-length : (cs : List ℕ) (l : List A) → length (setEach z cs l) ≡ length l
+  each-length [] l = refl
+  each-length (c ∷ cs) l = each-length cs (set l c z) ∙ length-set l c z
+
+  -- a place more
+  pub each-more : (cs : List ℕ) (c : ℕ) (l : List A) → set (setEach z cs l) c z ≡ setEach z (cs ++ (c ∷ [])) l
+  each-more [] c l = refl
+  each-more (b ∷ cs) c l = each-more cs c (set l b z)
+
+  pub each-turn : (cs : List ℕ) (j : ℕ) (l : List A) → j < length cs
+      → set (setEach z (take j cs) l) (getD cs j 0) z ≡ setEach z (take (suc j) cs) l
+  each-turn cs j l h = rw (take-suc cs j 0 h) (each-more (take j cs) (getD cs j 0) l)

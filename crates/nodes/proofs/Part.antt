@@ -5,7 +5,7 @@ use mathlib.Core.Path.{_≡_, refl, ap, sym, _∙_}
 use native.Mathlib.Omega.{arith}
 use native.Mathlib.Nat.{add-zero}
 use lib.ListN.{length, drop, getD, set, length-drop}
-use lib.Seq.{length-take-le, take-all, sets, set-getD}
+use lib.Seq.{length-take-le, take-all, sets}
 use Rattle.lists.specs.Rows.{rows}
 use Rattle.lists.proofs.Rows.{length-rows, rows-getD, rows-set, rows-sets, length-unrows, unrows-rows, rows-unrows}
 use Rattle.model.specs.State.{Node, freeNode}
@@ -68,7 +68,3 @@ module _ {m : ℕ} {r : List ℕ} (h : Part m r) where
     rest-set n q =
         ap (λ (w : List ℕ). sets w (suc a) (n .owner ∷ n .guest ∷ n .retiredAt ∷ n .limbo ∷ [])) (q ∙ sym (state-set (n .state)))
         ∙ node-set n
-
-    -- a node that is put back changes nothing
-    pub node-kept : r ≡ withNode m r c (nodeIn m r c)
-    node-kept = part-words ∙ ap (λ (ns : List Node). rows nodeWords ns) (sym (set-getD (nodesIn m r) c freeNode))

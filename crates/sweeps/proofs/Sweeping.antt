@@ -1,78 +1,132 @@
--- A loop that frees the nodes that pass a test, and counts them: what holds at its head, where it starts, after a turn and where it ends;
--- and the test of a node that is due. Assumes nothing.
-use Prim.Native.Nat.{ℕ, _+_, _-_, _≤_, _<_}
-use mathlib.Core.Bool.{Bool, cond}
+-- A sweep in two passes: the places of the nodes that pass a test are noted, then the nodes at them are freed. For the loop of each
+-- what holds at its head, where it starts, after a turn and where it ends; and the test of a node that is due. Assumes nothing.
+use Prim.Native.Nat.{ℕ, suc, _+_, _-_, _≤_, _<_}
+use mathlib.Core.Bool.{Bool, true, false, cond}
 use mathlib.Core.List.{List, append-nil}
-use mathlib.Core.Path.{_≡_, refl, ap, _∙_}
+use mathlib.Core.Path.{_≡_, refl, sym, ap, _∙_}
 use native.Mathlib.Omega.{arith}
-use native.Mathlib.Nat.{zero-add}
+use native.Mathlib.Nat.{zero-add, add-zero}
 use native.Mathlib.Numerals.{add-one}
 use lib.ListN.{length, getD, set, take, length-set, drop-of-length-le}
-use lib.Seq.{take-all}
-use Rattle.lists.specs.Tests.{countFrom}
+use lib.Seq.{take-all, take-set-le, take-suc-set, length-take-le, getD-take}
+use Rattle.lists.specs.Tests.{countFrom, All}
 use Rattle.lists.specs.Rows.{rows}
-use Rattle.lists.proofs.Turns.{one-most, count-from-turn, sweptTo, swept-length, swept-at, swept-turn}
+use Rattle.lists.specs.Sweep.{setEach}
+use Rattle.lists.proofs.Facts.{all-at, all-snoc}
+use Rattle.lists.proofs.Turns.{one-most, count-from-turn, sweptTo, swept-turn, swept-kept, each-length, each-more}
+use Rattle.lists.proofs.Turns.{each-turn}
 use Rattle.lists.proofs.Compares.{ltb-swap}
 use Rattle.model.specs.State.{Node, freeNode}
 use Rattle.layout.specs.Shape.{nodeWords}
-use Rattle.nodes.specs.Nodes.{nodesIn, nodeIn, Part}
-use Rattle.sweeps.specs.Sweeps.{dueUnmarked, retiredBefore, Freed, Swept}
+use Rattle.nodes.specs.Nodes.{nodesIn, nodeIn, Part, withNode}
+use Rattle.sweeps.specs.Sweeps.{dueUnmarked, retiredBefore, Places, freedAt, Swept}
 use Rattle.nodes.proofs.Part.{nodes-length, nodes-back, part-rows, part-words}
 
--- the words r₀ are r now: the first i nodes are swept
-pub record Sweeping (f : ℕ → Node → Bool) (m : ℕ) (r₀ r : List ℕ) (freed i : ℕ) : Type 0 where
-  pub part₀ : Part m r₀
+-- ---- the first pass
+
+-- the places of those of the first i nodes that pass are noted: where they are freed, the first i nodes are swept
+pub record Noting (f : ℕ → Node → Bool) (m : ℕ) (r : List ℕ) (places : List ℕ) (count i : ℕ) : Type 0 where
   pub part : Part m r
+  pub room : length places ≡ 256
   pub low : i ≤ m
-  pub few : freed ≤ i
-  pub words : r ≡ rows nodeWords (sweptTo f freeNode 0 i (nodesIn m r₀))
-  pub passed : freed ≡ countFrom f 0 (take i (nodesIn m r₀))
+  pub few : count ≤ i
+  pub below : All (λ c. c < m) (take count places)
+  pub freed : setEach freeNode (take count places) (nodesIn m r) ≡ sweptTo f freeNode 0 i (nodesIn m r)
+  pub passed : count ≡ countFrom f 0 (take i (nodesIn m r))
 
-pub starts : {f : ℕ → Node → Bool} {m : ℕ} {r : List ℕ} → Part m r → Sweeping f m r r 0 0
-starts h =
-    record { part₀ = h; part = h; low = omega arith; few = omega arith; words = part-words h; passed = refl }
+pub notes-none : {f : ℕ → Node → Bool} {m : ℕ} {r places : List ℕ} → Part m r → length places ≡ 256 → Noting f m r places 0 0
+notes-none h e =
+    record { part = h; room = e; low = omega arith; few = omega arith; below = tt; freed = refl; passed = refl }
 
-module _ {f : ℕ → Node → Bool} {m : ℕ} {r₀ r : List ℕ} {freed i : ℕ} (h : Sweeping f m r₀ r freed i) where
-  many : length (nodesIn m r₀) ≡ m
-  many = nodes-length m r₀
+module _ {f : ℕ → Node → Bool} {m : ℕ} {r places : List ℕ} {count i : ℕ} (h : Noting f m r places count i) where
+  many : length (nodesIn m r) ≡ m
+  many = nodes-length m r
 
-  -- the nodes now, and the one that is looked at
-  now-nodes : nodesIn m r ≡ sweptTo f freeNode 0 i (nodesIn m r₀)
-  now-nodes = rw (h .words) (nodes-back (sweptTo f freeNode 0 i (nodesIn m r₀)) (swept-length f freeNode 0 i (nodesIn m r₀) ∙ many))
-
-  node-now : nodeIn m r i ≡ nodeIn m r₀ i
-  node-now = ap (λ (ns : List Node). getD ns i freeNode) now-nodes ∙ swept-at f freeNode 0 i (nodesIn m r₀) freeNode
-
-  module _ {b : Bool} {r′ : List ℕ} {freed′ : ℕ} (l : i < m) (e : b ≡ f i (nodeIn m r i)) (u : Freed m r i b freed r′ freed′) where
-    inside : i < length (nodesIn m r₀)
+  -- place i, noted and counted or not
+  module _ (l : i < m) where
+    inside : i < length (nodesIn m r)
     inside = rw many l
 
-    test : b ≡ f i (nodeIn m r₀ i)
-    test = e ∙ ap (f i) node-now
+    there : count < length places
+    there = omega (arith, h .room, h .few, h .part .few)
 
-    swept-more : set (nodesIn m r) i (cond b freeNode (nodeIn m r i)) ≡ sweptTo f freeNode 0 (i + 1) (nodesIn m r₀)
-    swept-more =
-        (λ t. set (now-nodes t) i (cond (test t) freeNode (node-now t)))
-        ∙ rw add-one (rw zero-add at (swept-turn f freeNode 0 (nodesIn m r₀) i freeNode inside))
+    below-more : (b : Bool) → All (λ c. c < m) (take (count + cond b 1 0) (set places count i))
+    below-more true =
+        rw (add-one count, take-suc-set places count i there) (all-snoc (λ c. c < m) (take count places) i (h .below) l)
+    below-more false = rw (add-zero count, take-set-le count places count i (omega arith)) (h .below)
 
-    passed-more : freed′ ≡ countFrom f 0 (take (i + 1) (nodesIn m r₀))
-    passed-more = rw (u .1, h .passed, test, add-one) (rw zero-add at (count-from-turn f 0 (nodesIn m r₀) i freeNode inside))
+    freed-more : (b : Bool) → b ≡ f i (nodeIn m r i)
+        → setEach freeNode (take (count + cond b 1 0) (set places count i)) (nodesIn m r) ≡ sweptTo f freeNode 0 (suc i) (nodesIn m r)
+    freed-more true e =
+        rw (add-one count, take-suc-set places count i there)
+        (sym (each-more freeNode (take count places) i (nodesIn m r))
+        ∙ (λ t. set (h .freed t) i (cond (e t) freeNode (nodeIn m r i)))
+        ∙ rw zero-add at (swept-turn f freeNode 0 (nodesIn m r) i freeNode inside))
+    freed-more false e =
+        rw (add-zero count, take-set-le count places count i (omega arith))
+        (h .freed ∙ swept-kept f freeNode 0 (nodesIn m r) i freeNode inside (rw zero-add (sym e)))
 
-    pub turn : Sweeping f m r₀ r′ freed′ (i + 1)
-    turn =
+    passed-more : (b : Bool) → b ≡ f i (nodeIn m r i) → count + cond b 1 0 ≡ countFrom f 0 (take (suc i) (nodesIn m r))
+    passed-more b e = rw (h .passed, e) (rw zero-add at (count-from-turn f 0 (nodesIn m r) i freeNode inside))
+
+    pub notes-more : {b : Bool} → b ≡ f i (nodeIn m r i) → Noting f m r (set places count i) (count + cond b 1 0) (suc i)
+    notes-more {b} e =
         record {
-          part₀ = h .part₀;
-          part = rw (u .0) (part-rows (set (nodesIn m r) i (cond b freeNode (nodeIn m r i))) (length-set (nodesIn m r) i _ ∙ nodes-length m r) (h .part .few));
-          low = omega arith;
-          few = omega (arith, one-most b, h .few, u .1);
-          words = u .0 ∙ ap (rows nodeWords) swept-more;
-          passed = passed-more;
+          part = h .part;
+          room = length-set places count i ∙ h .room;
+          low = l;
+          few = omega (arith, one-most b, h .few);
+          below = below-more b;
+          freed = freed-more b e;
+          passed = passed-more b e;
         }
 
-  pub ends : m ≤ i → Swept f m r₀ r freed
-  ends l =
-      let q : length (nodesIn m r₀) ≤ i = rw many l in
-      (h .words ∙ rw (take-all i (nodesIn m r₀) q, drop-of-length-le (nodesIn m r₀) q, append-nil), h .passed ∙ ap (countFrom f 0) (take-all i (nodesIn m r₀) q))
+  pub noted : Places m places count
+  noted = record { room = h .room; few = omega (arith, h .few, h .low, h .part .few); below = h .below }
+
+  pub notes-all : {r′ : List ℕ} → m ≤ i → r′ ≡ freedAt (take count places) m r → Swept f m r r′ count
+  notes-all l e =
+      let q : length (nodesIn m r) ≤ i = rw many l in
+      (e ∙ ap (rows nodeWords) (h .freed) ∙ rw (take-all i (nodesIn m r) q, drop-of-length-le (nodesIn m r) q, append-nil), h .passed ∙ ap (countFrom f 0) (take-all i (nodesIn m r) q))
+
+-- ---- the second pass
+
+-- the node at a place that is noted
+pub place-below : {m : ℕ} {places : List ℕ} {count j i : ℕ} → Places m places count → j < count → i ≡ j → getD places i 0 < m
+place-below {m} {places} {count} {j} {i} h l e =
+    let k = length-take-le count places (omega (arith, h .room, h .few)) in
+    rw (e, ← getD-take count places j 0 l) (all-at (λ c. c < m) (take count places) j 0 (h .below) (omega (arith, k)))
+
+-- the words r₀ are r now: the nodes at the first j places are freed
+pub record Freeing (m : ℕ) (places r₀ r : List ℕ) (count j : ℕ) : Type 0 where
+  pub part : Part m r
+  pub low : j ≤ count
+  pub words : r ≡ freedAt (take j places) m r₀
+
+pub frees-none : {m : ℕ} {places r : List ℕ} {count : ℕ} → Part m r → Freeing m places r r count 0
+frees-none h = record { part = h; low = omega arith; words = part-words h }
+
+module _ {m : ℕ} {places r₀ r : List ℕ} {count j : ℕ} (h : Freeing m places r₀ r count j) where
+  now-nodes : nodesIn m r ≡ setEach freeNode (take j places) (nodesIn m r₀)
+  now-nodes = rw (h .words) (nodes-back (setEach freeNode (take j places) (nodesIn m r₀)) (each-length freeNode (take j places) (nodesIn m r₀) ∙ nodes-length m r₀))
+
+  pub frees-more : {r′ : List ℕ} {c : ℕ} → Places m places count → j < count → c ≡ getD places j 0 → r′ ≡ withNode m r c freeNode
+      → Freeing m places r₀ r′ count (suc j)
+  frees-more {c = c} k l q e =
+      record {
+        part = rw e (part-rows (set (nodesIn m r) c freeNode) (length-set (nodesIn m r) c freeNode ∙ nodes-length m r) (h .part .few));
+        low = l;
+        words =
+            e ∙ (λ t. rows nodeWords (set (now-nodes t) (q t) freeNode))
+            ∙ ap (rows nodeWords) (each-turn freeNode places j (nodesIn m r₀) (omega (arith, k .room, k .few)));
+      }
+
+  pub frees-all : count ≤ j → r ≡ freedAt (take count places) m r₀
+  frees-all l =
+      let e : j ≡ count = omega (arith, h .low) in
+      h .words ∙ ap (λ (n : ℕ). freedAt (take n places) m r₀) e
+
+-- ---- the test
 
 pub due-is : (n : Node) (marks : List Bool) (p clock delay c : ℕ) {limit : ℕ} → limit ≡ clock - delay
     → retiredBefore p limit marks c n ≡ dueUnmarked p clock delay marks c n

@@ -1,17 +1,17 @@
 -- Which nodes a sweep frees, and what it leaves. Assumes nothing.
-use Prim.Native.Nat.{ℕ, suc, _+_, _-_}
-use mathlib.Core.Bool.{Bool, false, not, _&&_, cond}
+use Prim.Native.Nat.{ℕ, suc, _-_, _≤_, _<_}
+use mathlib.Core.Bool.{Bool, false, not, _&&_}
 use mathlib.Core.List.{List}
 use mathlib.Core.Path.{_≡_}
-use lib.ListN.{getD}
+use lib.ListN.{length, getD, take}
 use lib.Dec.{ltb, eqb}
-use Rattle.lists.specs.Tests.{countFrom}
-use Rattle.lists.specs.Sweep.{sweepFrom}
+use Rattle.lists.specs.Tests.{countFrom, All}
+use Rattle.lists.specs.Sweep.{sweepFrom, setEach}
 use Rattle.lists.specs.Rows.{rows}
 use Rattle.model.specs.State.{Node, freeNode}
 use Rattle.model.specs.Retire.{retiredBy}
 use Rattle.layout.specs.Shape.{nodeWords}
-use Rattle.nodes.specs.Nodes.{nodesIn, nodeIn, withNode}
+use Rattle.nodes.specs.Nodes.{nodesIn}
 
 -- node c, Retired by p more than the delay ago, with its mark not set (the marks count from 1)
 abbrev pub dueUnmarked : ℕ → ℕ → ℕ → List Bool → ℕ → Node → Bool
@@ -25,10 +25,15 @@ retiredBefore p limit marks c n = retiredBy p n && (ltb (n .retiredAt) limit && 
 abbrev pub expiredIn : ℕ → ℕ → ℕ → Node → Bool
 expiredIn p epoch c n = retiredBy p n && eqb (n .limbo) epoch
 
--- words r after node c is freed where the test is passed: r′, and freed′ nodes with those freed before
-abbrev pub Freed : ℕ → List ℕ → ℕ → Bool → ℕ → List ℕ → ℕ → Type 0
-Freed m r c passed freed r′ freed′ =
-    (r′ ≡ withNode m r c (cond passed freeNode (nodeIn m r c))) × (freed′ ≡ freed + cond passed 1 0)
+-- the first `count` of 256 places are those of nodes, of which there are m
+pub record Places (m : ℕ) (places : List ℕ) (count : ℕ) : Type 0 where
+  pub room : length places ≡ 256
+  pub few : count ≤ 256
+  pub below : All (λ c. c < m) (take count places)
+
+-- words r after the nodes at these places are freed
+abbrev pub freedAt : List ℕ → ℕ → List ℕ → List ℕ
+freedAt places m r = rows nodeWords (setEach freeNode places (nodesIn m r))
 
 -- words r after a sweep by the test f: r′, with so many nodes freed
 abbrev pub Swept : (ℕ → Node → Bool) → ℕ → List ℕ → List ℕ → ℕ → Type 0

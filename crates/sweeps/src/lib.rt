@@ -3,11 +3,12 @@ use layout::Node;
 use layout::NodeId;
 use layout::ProcessId;
 ghost use mathlib.Core.Path.{_≡_};
-ghost use mathlib.Core.Bool.{true};
-ghost use Prim.Native.Nat.{_-_, _≤_, _<_};
-ghost use lib.ListN.{set};
-ghost use Rattle.nodes.specs.Nodes.{nodeIn, Part};
-ghost use Rattle.sweeps.specs.Sweeps.{dueUnmarked, retiredBefore, expiredIn, Freed, Swept};
+ghost use mathlib.Core.Bool.{true, cond};
+ghost use Prim.Native.Nat.{_+_, _-_, _≤_, _<_};
+ghost use lib.ListN.{set, take};
+ghost use Rattle.model.specs.State.{freeNode};
+ghost use Rattle.nodes.specs.Nodes.{nodeIn, Part, withNode};
+ghost use Rattle.sweeps.specs.Sweeps.{dueUnmarked, retiredBefore, expiredIn, Places, freedAt, Swept};
 
 // Sets the mark of a node, given as its number + 1, or the mark 0 of none.
 pub fn mark(marks: &mut [bool; 257], v: u32)
@@ -42,23 +43,41 @@ fn expired(nodes: &[u32], m: u32, c: NodeId, p: ProcessId, epoch: u32) -> bool
     counts::retired_by(nodes, m, c, p) & (nodes[at + 4] == epoch)
 }
 
-// Frees node c where the test is passed, and answers how many are freed with it.
-fn free_if(nodes: &mut [u32], m: u32, c: NodeId, passed: bool, freed: u32) -> u32
-    requires { ⌜ Part m (now nodes) × (c .0 < m) × (freed ≤ c .0) ⌝ }
-    ensures { λ r. ⌜ Freed m (now (nodes .entry)) (c .0) passed freed (now (nodes .exit)) r ⌝ }
+// Writes place i after the `count` places that are noted, and answers how many are noted now: i is one of them where the test is
+// passed. There is no branch, since the nodes that pass may stand anywhere.
+fn note(places: &mut [u8; 256], count: u32, i: u32, passed: bool) -> u32
+    requires { ⌜ (count ≤ i) × (i < 256) ⌝ }
+    ensures { λ r. ⌜ (now (places .exit) ≡ set (now (places .entry)) count i) × (r ≡ count + cond passed 1 0) ⌝ }
 {
-    if passed {
-        let free = Node {
-            state: 0,
-            owner: 0,
-            guest: 0,
-            retired: 0,
-            limbo: 0,
-        };
-        nodes::put(nodes, m, c, free);
-        freed + 1
-    } else {
-        freed
+    places[layout::wide(count)] = i as u8;
+    count + counts::one_if(passed)
+}
+
+// Frees node c.
+fn free(nodes: &mut [u32], m: u32, c: NodeId)
+    requires { ⌜ Part m (now nodes) × (c .0 < m) ⌝ }
+    ensures { λ _. ⌜ now (nodes .exit) ≡ withNode m (now (nodes .entry)) (c .0) freeNode ⌝ }
+{
+    let x = Node {
+        state: 0,
+        owner: 0,
+        guest: 0,
+        retired: 0,
+        limbo: 0,
+    };
+    nodes::put(nodes, m, c, x);
+}
+
+// Frees the nodes at the `count` places that are noted.
+fn free_noted(nodes: &mut [u32], m: u32, places: &[u8; 256], count: u32)
+    requires { ⌜ Part m (now nodes) × Places m (now places) count ⌝ }
+    ensures { λ _. ⌜ now (nodes .exit) ≡ freedAt (take count (now (places .entry))) m (now (nodes .entry)) ⌝ }
+{
+    let mut j: u32 = 0;
+    while j < count {
+        let c = places[layout::wide(j)] as u32;
+        free(nodes, m, NodeId(c));
+        j += 1;
     }
 }
 
@@ -75,14 +94,16 @@ pub fn sweep_due(
     ensures { λ r. ⌜ Swept (dueUnmarked (p .0) clock delay (now (marks .entry))) m (now (nodes .entry)) (now (nodes .exit)) r ⌝ }
 {
     let limit = aged_before(clock, delay);
-    let mut freed: u32 = 0;
+    let mut places = [0u8; 256];
+    let mut count: u32 = 0;
     let mut i: u32 = 0;
     while i < m {
         let is_due = due(nodes, m, NodeId(i), p, limit, marks);
-        freed = free_if(nodes, m, NodeId(i), is_due, freed);
+        count = note(&mut places, count, i, is_due);
         i += 1;
     }
-    freed
+    free_noted(nodes, m, &places, count);
+    count
 }
 
 // Frees each Retired node of p in the limbo list of `epoch`, and answers how many.
@@ -90,12 +111,14 @@ pub fn sweep_expired(nodes: &mut [u32], m: u32, p: ProcessId, epoch: u32) -> u32
     requires { ⌜ Part m (now nodes) ⌝ }
     ensures { λ r. ⌜ Swept (expiredIn (p .0) epoch) m (now (nodes .entry)) (now (nodes .exit)) r ⌝ }
 {
-    let mut freed: u32 = 0;
+    let mut places = [0u8; 256];
+    let mut count: u32 = 0;
     let mut i: u32 = 0;
     while i < m {
         let is_expired = expired(nodes, m, NodeId(i), p, epoch);
-        freed = free_if(nodes, m, NodeId(i), is_expired, freed);
+        count = note(&mut places, count, i, is_expired);
         i += 1;
     }
-    freed
+    free_noted(nodes, m, &places, count);
+    count
 }
