@@ -17,8 +17,8 @@ use Rattle.faults.specs.Limits.{turned, within, anyWord}
 use Rattle.node_check.specs.NodeLimits.{nodeLimits, nodeWithin}
 use Rattle.faults.proofs.Tests.{below, only-zero, turned-back}
 
-pub node-none : (ws ls : List ℕ) (a i : ℕ) (x y z : Bool) → y ≡ (x && leb (word ws a) 4) → i ≡ word ws a
-    → z ≡ (y && within ws (a + 1) ls ((i + 3) % 8 * 4) 4) → z ≡ (x && nodeWithin ls ws a)
+pub node-none : (ws ls : List ℕ) (a i : ℕ) (x y z : Bool) → y ≡ (x && leb (word ws a) 4) → i ≡ word ws a % 8
+    → z ≡ (y && within ws (a + 1) ls (i * 4) 4) → z ≡ (x && nodeWithin ls ws a)
 unfolding nodeWithin
 node-none ws ls a i x y z hy hi hz =
     rw (hz, hy, hi) (and-assoc x _ _)
@@ -28,10 +28,10 @@ module _ (n clock : ℕ) where
   abbrev inRow : ℕ → ℕ → ℕ → ℕ → ℕ → Bool
   inRow s o g t l =
       leb s 4
-      && (leb o (turned (word (nodeLimits (n - 1) clock) ((s + 3) % 8 * 4 + 0)))
-      && leb g (turned (word (nodeLimits (n - 1) clock) ((s + 3) % 8 * 4 + 1)))
-      && leb t (turned (word (nodeLimits (n - 1) clock) ((s + 3) % 8 * 4 + 2)))
-      && leb l (turned (word (nodeLimits (n - 1) clock) ((s + 3) % 8 * 4 + 3))))
+      && (leb o (turned (word (nodeLimits (n - 1) clock) (s % 8 * 4 + 0)))
+      && leb g (turned (word (nodeLimits (n - 1) clock) (s % 8 * 4 + 1)))
+      && leb t (turned (word (nodeLimits (n - 1) clock) (s % 8 * 4 + 2)))
+      && leb l (turned (word (nodeLimits (n - 1) clock) (s % 8 * 4 + 3))))
 
   abbrev asClauses : ℕ → ℕ → ℕ → ℕ → ℕ → Bool
   asClauses s o g t l =

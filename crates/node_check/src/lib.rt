@@ -9,7 +9,7 @@ ghost use Rattle.layout.specs.Words.{nodesFit};
 ghost use Rattle.faults.specs.Limits.{none};
 ghost use Rattle.node_check.specs.NodeLimits.{nodeLimits, nodeWithin};
 
-// The limits of a node's words but the first, turned: three rows of none, then a row for each state. last is the last process.
+// The limits of a node's words but the first, a row for each state, turned; last is the last process.
 fn node_limits(last: u32, clock: u32) -> [u32; 32]
     ensures { λ r. ⌜ r ≡ nodeLimits last clock ⌝ }
 {
@@ -19,18 +19,6 @@ fn node_limits(last: u32, clock: u32) -> [u32; 32]
     let time = faults::turned(clock);
     let list = faults::turned(2);
     [
-        none,
-        none,
-        none,
-        none,
-        none,
-        none,
-        none,
-        none,
-        none,
-        none,
-        none,
-        none,
         none,
         none,
         none,
@@ -51,6 +39,18 @@ fn node_limits(last: u32, clock: u32) -> [u32; 32]
         any,
         time,
         list,
+        none,
+        none,
+        none,
+        none,
+        none,
+        none,
+        none,
+        none,
+        none,
+        none,
+        none,
+        none,
     ]
 }
 
@@ -65,7 +65,7 @@ fn node(faults: Faults, words: &[u32], at: usize, limits: &[u32]) -> Faults
         words,
         at + 1,
         limits,
-        (layout::wide(state) + 3) % 8 * 4,
+        layout::wide(state % 8) * 4,
     )
 }
 

@@ -1,7 +1,7 @@
 -- `node_check::node` meets its contract: the state's row of limits is one piece. Assumes nothing.
-use borrow.Author.Needs.{needs}
 use Rattle.faults.specs.Limits.{none}
 use Rattle.node_check.proofs.Nodes.{node-none}
+use borrow.Author.Needs.{needs}
 use Rattle.node_check.proofs.node.Statement.{statement}
 use Rattle.node_check.proofs.node.Tie as tie
 
@@ -20,9 +20,6 @@ add-piece c = search needs
 wide-requires : tie.Need-wide-requires
 wide-requires c κs = search needs
 
-add-piece-2 : tie.Need-add-piece-2
-add-piece-2 c = search needs
-
 mul-piece : tie.Need-mul-piece
 mul-piece c = search needs
 
@@ -30,19 +27,7 @@ piece-requires : tie.Need-piece-requires
 piece-requires c κs = search needs
 
 returns : tie.Need-returns
-returns c =
-    node-none _ _ _ _ (none (c .before .before .before .before .before .before .args .faults)) _ _ (c .before .before .stated .ensures) (c .before .wide .ensures .0) (c .piece .ensures)
+returns c = node-none _ _ _ _ (none (c .before .before .before .before .before .before .args .faults)) _ _ (c .before .before .stated .ensures) (c .before .wide .ensures .0) (c .piece .ensures)
 
 pub node-spec : {M : Type 1} → statement M
-node-spec =
-    tie.close
-    (tie.spec
-    mul-state
-    shared-slice-read-state
-    stated-requires
-    add-piece
-    wide-requires
-    add-piece-2
-    mul-piece
-    piece-requires
-    returns)
+node-spec = tie.close (tie.spec mul-state shared-slice-read-state stated-requires add-piece wide-requires mul-piece piece-requires returns)
