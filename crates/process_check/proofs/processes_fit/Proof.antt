@@ -85,9 +85,14 @@ slice-aggregate-process-3 : tie.Need-slice-aggregate-process-3 Inv-loop μ-loop
 slice-aggregate-process-3 c = search needs
 
 process-requires : tie.Need-process-requires Inv-loop μ-loop
-process-requires c κs =
-    ((omega arith, process-room (c .before .before .before .before .before .before .before .before .before .before .before .before .before .before .before .before .before .before .before .args .words .now) (c .before .before .before .before .before .before .before .before .before .before .before .before .before .before .wide2 .result) (c .before .before .before .before .loop .p) (c .before .before .before .before .loop .at) (c .before .before .before .before .before .before .before .before .before .before .before .before .before .before .before .before .before .before .before .pre) (c .before .before .before .before .before .before .before .before .before .before .before .before .before .before .wide2 .ensures .0) (omega arith)
-    (c .before .before .before .before .loop .inv .1)), (c .before .before .before .before .loop .inv .2, c .before .before .before .before .loop .inv .3, c .before .before .before .before .loop .inv .4))
+process-requires c κs = (
+  (
+    omega arith,
+    process-room (c .before .before .before .before .before .before .before .before .before .before .before .before .before .before .before .before .before .before .before .args .words .now) (c .before .before .before .before .before .before .before .before .before .before .before .before .before .before .wide2 .result) (c .before .before .before .before .loop .p) (c .before .before .before .before .loop .at) (c .before .before .before .before .before .before .before .before .before .before .before .before .before .before .before .before .before .before .before .pre) (c .before .before .before .before .before .before .before .before .before .before .before .before .before .before .wide2 .ensures .0) (omega arith)
+        (c .before .before .before .before .loop .inv .1),
+  ),
+  (c .before .before .before .before .loop .inv .2, c .before .before .before .before .loop .inv .3, c .before .before .before .before .loop .inv .4),
+)
 
 mul-at : tie.Need-mul-at Inv-loop μ-loop
 mul-at c = search needs
@@ -97,8 +102,11 @@ add-at c = search needs
 
 add-at-2 : tie.Need-add-at-2 Inv-loop μ-loop
 add-at-2 c =
-    omega (arith, process-room (c .before .before .before .before .before .before .before .before .before .before .before .before .before .before .before .before .before .before .before .before .args .words .now) (c .before .before .before .before .before .before .before .before .before .before .before .before .before .before .before .wide2 .result) (c .before .before .before .before .before .loop .p) (c .before .before .before .before .before .loop .at) (c .before .before .before .before .before .before .before .before .before .before .before .before .before .before .before .before .before .before .before .before .pre) (c .before .before .before .before .before .before .before .before .before .before .before .before .before .before .before .wide2 .ensures .0) (omega arith)
-    (c .before .before .before .before .before .loop .inv .1))
+    omega (
+      arith,
+      process-room (c .before .before .before .before .before .before .before .before .before .before .before .before .before .before .before .before .before .before .before .before .args .words .now) (c .before .before .before .before .before .before .before .before .before .before .before .before .before .before .before .wide2 .result) (c .before .before .before .before .before .loop .p) (c .before .before .before .before .before .loop .at) (c .before .before .before .before .before .before .before .before .before .before .before .before .before .before .before .before .before .before .before .before .pre) (c .before .before .before .before .before .before .before .before .before .before .before .before .before .before .before .wide2 .ensures .0) (omega arith)
+          (c .before .before .before .before .before .loop .inv .1),
+    )
 
 add-p : tie.Need-add-p Inv-loop μ-loop
 add-p c = search needs
@@ -107,16 +115,15 @@ loop-less : tie.Need-loop-less Inv-loop μ-loop
 loop-less c = search needs
 
 loop-again : tie.Need-loop-again Inv-loop μ-loop
-loop-again c =
-    (
-      omega arith,
-      omega arith,
-      search needs,
-      search needs,
-      search needs,
-      process-turn _ (λ j. omega (arith, c .before .before .before .before .before .before .before .before .before .before .before .before .before .before .before .before .before .before .before .shared-slice-known .given j)) (c .before .before .before .before .before .before .before .before .before .before .before .before .before .before .before .before .before .before .before .before .pre) _ _ _ _ _ _ _ _ (c .before .before .before .before .before .before .before .before .before .before .before .before .before .before .before .wide2 .ensures .0) (c .before .before .before .before .before .before .before .before .before .before .before .before .before .lead-limits .ensures)
+loop-again c = (
+  omega arith,
+  omega arith,
+  search needs,
+  search needs,
+  search needs,
+  process-turn _ (λ j. omega (arith, c .before .before .before .before .before .before .before .before .before .before .before .before .before .before .before .before .before .before .before .shared-slice-known .given j)) (c .before .before .before .before .before .before .before .before .before .before .before .before .before .before .before .before .before .before .before .before .pre) _ _ _ _ _ _ _ _ (c .before .before .before .before .before .before .before .before .before .before .before .before .before .before .before .wide2 .ensures .0) (c .before .before .before .before .before .before .before .before .before .before .before .before .before .lead-limits .ensures)
       (c .before .before .before .before .before .before .before .before .before .before .before .hazard-limits .ensures) (c .before .before .before .before .before .before .before .store-limits .ensures) (c .before .before .before .before .before .loop .inv .1) (c .before .before .before .before .before .loop .inv .5) (c .process .ensures),
-    )
+)
 
 is-clean-requires : tie.Need-is-clean-requires Inv-loop μ-loop
 is-clean-requires c κs = search needs
