@@ -5,9 +5,9 @@ use mathlib.Core.Path.{_≡_, refl, sym, subst}
 use mathlib.Core.Logic.{_≢_}
 use borrow.Author.Tests.{ne-eqb}
 use Rattle.model.specs.State.{Step}
-use Rattle.model.specs.Kinds.{kindOf, Unknown}
+use Rattle.model.specs.Kinds.{kindOf}
 use Rattle.layout.specs.Sound.{Sound}
-use Rattle.steps.specs.Stepped.{Ready, Acted}
+use Rattle.acts.specs.Acted.{Ready, Acted}
 
 module _ (kind n : ℕ) (e : kind ≡ n) (ws : List ℕ) (s : Step) where
   pub ready-at : Ready (kindOf kind) ws s → Ready (kindOf n) ws s

@@ -1,3 +1,2 @@
-pub mod Yes
 pub mod ByNumber
 pub mod Known
