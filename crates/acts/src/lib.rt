@@ -96,7 +96,7 @@ pub fn manage(words: &mut [u32], p: ProcessId) -> u32
     requires { ⌜ Ready Manage (now words) (given 12 (p .0) 0 0 0) ⌝ }
     ensures { λ r. ⌜ Acted Manage (now (words .entry)) (given 12 (p .0) 0 0 0) (now (words .exit)) r ⌝ }
 {
-    epochs::manage(words, p)
+    manage::manage(words, p)
 }
 
 pub fn clear_presence(words: &mut [u32]) -> u32

@@ -1,10 +1,10 @@
--- `epochs::manage` meets its contract: the call counted, then what a manage that acts does. Assumes nothing.
+-- `manage::manage` meets its contract: the call counted, then what a manage that acts does. Assumes nothing.
 use mathlib.Core.Path.{refl}
 use native.Mathlib.Omega.{arith}
-use Rattle.epochs.proofs.Called.{small, only-counts, sound-called, process-called, acts}
+use Rattle.manage.proofs.Called.{small, only-counts, sound-called, process-called, acts}
 use borrow.Author.Needs.{needs}
-use Rattle.epochs.proofs.manage.Statement.{statement}
-use Rattle.epochs.proofs.manage.Tie as tie
+use Rattle.manage.proofs.manage.Statement.{statement}
+use Rattle.manage.proofs.manage.Tie as tie
 
 lead-requires : tie.Need-lead-requires
 lead-requires c κs = search needs

@@ -1,10 +1,10 @@
--- `epochs::managing` meets its contract: by the branches of a manage that acts. Assumes nothing.
+-- `manage::managing` meets its contract: by the branches of a manage that acts. Assumes nothing.
 use mathlib.Core.Path.{_∙_, sym}
 use borrow.Author.Tests.{not-true, not-false}
-use Rattle.epochs.proofs.Called.{fast, some-absent, sound-fast, process-fast, goes-back}
+use Rattle.manage.proofs.Called.{fast, some-absent, sound-fast, process-fast, goes-back}
 use borrow.Author.Needs.{needs}
-use Rattle.epochs.proofs.managing.Statement.{statement}
-use Rattle.epochs.proofs.managing.Tie as tie
+use Rattle.manage.proofs.managing.Statement.{statement}
+use Rattle.manage.proofs.managing.Tie as tie
 
 path-requires : tie.Need-path-requires
 path-requires c κs = search needs
