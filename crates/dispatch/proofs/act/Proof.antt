@@ -1,9 +1,9 @@
--- `steps::act` meets its contract: each arm by its kind. Assumes nothing.
+-- `dispatch::act` meets its contract: each arm by its kind. Assumes nothing.
 use Rattle.domain.specs.Effects.{given}
-use Rattle.steps.proofs.ByNumber.{ready-at, acted-at, acted-none}
+use Rattle.dispatch.proofs.ByNumber.{ready-at, acted-at, acted-none}
 use borrow.Author.Needs.{needs}
-use Rattle.steps.proofs.act.Statement.{statement}
-use Rattle.steps.proofs.act.Tie as tie
+use Rattle.dispatch.proofs.act.Statement.{statement}
+use Rattle.dispatch.proofs.act.Tie as tie
 
 allocate-requires : tie.Need-allocate-requires
 allocate-requires c κs = ready-at _ 1 (c .before .match .keys1) (c .before .before .before .args .words .now) (given (c .before .before .before .args .kind) (c .before .before .before .args .p .0) (c .before .before .before .args .h .0) (c .before .before .before .args .c .0) (c .before .before .before .args .guest)) (c .before .before .before .pre)
