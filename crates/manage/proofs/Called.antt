@@ -1,6 +1,6 @@
 -- Manage on words: the call counted, and the branches of what it then does. Assumes nothing.
 use Prim.Native.Nat.{ℕ, _+_, _%_, _<_, _≤_}
-use mathlib.Core.Bool.{Bool, true, false}
+use mathlib.Core.Bool.{true, false}
 use mathlib.Core.List.{List}
 use mathlib.Core.Path.{_≡_, refl, sym, _∙_, ap}
 use mathlib.Core.Logic.{_≢_}
@@ -9,7 +9,7 @@ use borrow.Author.Tests.{eq-eqb, ne-eqb}
 use lib.Dec.{eqb}
 use Rattle.model.specs.Params.{Params}
 use Rattle.model.specs.WellFormed.{WellFormed}
-use Rattle.model.specs.State.{Domain, Step, Fast, processOf, setProcess, withWords, withPath}
+use Rattle.model.specs.State.{Step, processOf, setProcess, withWords, withPath}
 use Rattle.model.specs.Epochs.{allPresent, quiescent, managing, calledBy, counted, manage}
 use Rattle.model.proofs.WellFormed.{process-fits, keep-counted, keep-path}
 use Rattle.layout.specs.Shape.{Lead, leadOf, word}

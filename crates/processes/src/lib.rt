@@ -1,7 +1,6 @@
 // The loops over all processes of a domain's words.
 use layout::ProcessId;
 ghost use mathlib.Core.Path.{_≡_};
-ghost use Prim.Native.Nat.{_≤_};
 ghost use Rattle.lists.specs.Tests.{every};
 ghost use Rattle.model.specs.State.{clearPresence};
 ghost use Rattle.model.specs.Hazards.{young};

@@ -1,6 +1,6 @@
 -- `questions::room` meets its contract: by the length of the buffer. Assumes nothing.
-use mathlib.Core.Path.{_≡_, _∙_, ap, sym, refl}
-use mathlib.Core.Bool.{not, cond}
+use mathlib.Core.Path.{_∙_, ap}
+use mathlib.Core.Bool.{cond}
 use lib.Dec.{ltb}
 use borrow.Author.Needs.{needs}
 use Rattle.questions.proofs.room.Statement.{statement}
