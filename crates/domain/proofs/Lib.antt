@@ -1,3 +1,4 @@
 pub mod Head
 pub mod Nodes
 pub mod After
+pub mod ReadParams

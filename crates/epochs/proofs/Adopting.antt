@@ -1,14 +1,14 @@
 -- The quiescent state on words: a process brought to the global epoch, and the epoch moved on. Assumes nothing.
 use Prim.Native.Nat.{ℕ, _+_, _%_, _<_}
-use mathlib.Core.Bool.{Bool, true, false, cond}
+use mathlib.Core.Bool.{true, false}
 use mathlib.Core.List.{List}
 use mathlib.Core.Path.{_≡_, refl, sym, _∙_, ap}
 use mathlib.Core.Logic.{_≢_}
 use borrow.Author.Tests.{eq-eqb, ne-eqb}
 use lib.Dec.{eqb}
 use Rattle.model.specs.WellFormed.{WellFormed}
-use Rattle.model.specs.State.{Domain, processOf, setProcess, withWords, withEpoch, nextEpoch}
-use Rattle.model.specs.Retire.{Effect, freeing}
+use Rattle.model.specs.State.{Domain, processOf, setProcess, withWords, withEpoch}
+use Rattle.model.specs.Retire.{freeing}
 use Rattle.model.specs.Epochs.{expired, caughtUp, adopted, adopt, quiescent}
 use Rattle.model.proofs.WellFormed.{keep-freeing}
 use Rattle.layout.specs.Shape.{Lead, leadOf, word}

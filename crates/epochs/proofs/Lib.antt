@@ -1,2 +1,1 @@
 pub mod Adopting
-pub mod Called

@@ -1,13 +1,11 @@
-// Manage: calls counted, presence, the switch back to the fast path, and the quiescent state.
+// The quiescent state: a process brought to the global epoch, and the global epoch moved on.
 use layout::ProcessId;
 ghost use Prim.Native.Nat.{_<_};
-ghost use Rattle.model.specs.Kinds.{Manage};
-ghost use Rattle.model.specs.Epochs.{adopt, quiescent, managing};
-ghost use Rattle.model.specs.Machine.{act};
+ghost use Rattle.model.specs.Epochs.{adopt, quiescent};
 ghost use Rattle.layout.specs.Shape.{word};
 ghost use Rattle.layout.specs.Encode.{decode};
 ghost use Rattle.layout.specs.Sound.{Sound};
-ghost use Rattle.domain.specs.Effects.{Does, given};
+ghost use Rattle.domain.specs.Effects.{Does};
 
 // Brings process p to the global epoch: its expired nodes are freed; answers how many.
 fn adopt(words: &mut [u32], p: ProcessId) -> u32
@@ -22,7 +20,7 @@ fn adopt(words: &mut [u32], p: ProcessId) -> u32
 }
 
 // The quiescent state of process p; answers how many nodes it freed.
-fn quiescent(words: &mut [u32], p: ProcessId) -> u32
+pub fn quiescent(words: &mut [u32], p: ProcessId) -> u32
     requires { ⌜ Sound (now words) × (p .0 < word (now words) 0) ⌝ }
     ensures { λ r. ⌜ Does (quiescent (decode (now (words .entry))) (p .0)) (now (words .exit)) r ⌝ }
 {
@@ -36,35 +34,4 @@ fn quiescent(words: &mut [u32], p: ProcessId) -> u32
     }
     domain::set_epoch(words, (global + 1) % 3);
     0
-}
-
-// A manage that acts, presence being set.
-fn managing(words: &mut [u32], p: ProcessId) -> u32
-    requires { ⌜ Sound (now words) × (p .0 < word (now words) 0) ⌝ }
-    ensures { λ r. ⌜ Does (managing (decode (now (words .entry))) (p .0)) (now (words .exit)) r ⌝ }
-{
-    if domain::path(words) != 1 {
-        return quiescent(words, p);
-    }
-    if !processes::all_present(words) {
-        return 0;
-    }
-    domain::set_path(words, 0);
-    quiescent(words, p)
-}
-
-// Manage by process p; answers how many nodes it freed.
-pub fn manage(words: &mut [u32], p: ProcessId) -> u32
-    requires { ⌜ Sound (now words) × (p .0 < word (now words) 0) ⌝ }
-    ensures { λ r. ⌜ Does (act Manage (decode (now (words .entry))) (given 12 (p .0) 0 0 0)) (now (words .exit)) r ⌝ }
-{
-    let l = process::lead(words, p);
-    let a = domain::bounds(words);
-    let calls = (l.calls + 1) % a.quiescence;
-    if calls != 0 {
-        process::set_lead(words, p, l.epoch, calls, l.presence);
-        return 0;
-    }
-    process::set_lead(words, p, l.epoch, 0, 1);
-    managing(words, p)
 }

@@ -1,13 +1,14 @@
 -- Each record of the layout is what its words say, and its words are what it says; and the layout itself. Assumes nothing.
 use Prim.Native.Nat.{ℕ, zero, suc, _<_}
 use mathlib.Core.List.{List, [], _∷_}
-use mathlib.Core.Path.{_≡_, refl, sym, _∙_}
+use mathlib.Core.Path.{_≡_, refl}
 use native.Mathlib.Omega.{arith}
 use lib.ListN.{length, take}
-use lib.Seq.{ext-getD, getD-take}
+use lib.Seq.{getD-take}
 use Rattle.lists.specs.Rows.{Codec}
 use Rattle.model.specs.State.{Pending, Hazard, Node}
-use Rattle.layout.specs.Shape.{Shape, Head, Lead, word, headWords, headAt, leadWords, leadAt, hazardWords, hazardAt}
+use Rattle.layout.specs.Shape.{Shape, Head, Lead, word, headWords, headAt, leadWords, leadAt, hazardWords}
+use Rattle.layout.specs.Shape.{hazardAt}
 use Rattle.layout.specs.Shape.{pendingWords, pendingAt, nodeWords, nodeAt}
 
 -- the words of r at the places from i on, as many as n

@@ -4,7 +4,7 @@ use Prim.Native.Nat.{ℕ, zero, suc, _+_, _*_, _≤_, _<_}
 use mathlib.Core.List.{List, [], _∷_, _++_, append-assoc}
 use mathlib.Core.Path.{_≡_, refl, ap, sym, _∙_}
 use native.Mathlib.Omega.{arith}
-use native.Mathlib.Nat.{zero-mul, suc-mul, zero-add, suc-add, add-suc, mul-le-mul-right, not-suc-le-zero}
+use native.Mathlib.Nat.{zero-mul, suc-mul, zero-add, suc-add, mul-le-mul-right, not-suc-le-zero}
 use lib.ListN.{length, take, drop, getD, set, replicate, replicate-append-replicate, length-append, length-take}
 use lib.ListN.{length-drop, List·getD-append}
 use lib.Seq.{length-take-le, take-append-le, take-append-add, drop-append-add, getD-append-add, set-append-left}

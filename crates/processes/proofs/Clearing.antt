@@ -17,7 +17,7 @@ use Rattle.layout.specs.Values.{paramsValue, leadValue}
 use Rattle.layout.specs.declared.Params.{Params}
 use Rattle.layout.specs.declared.Lead.{Lead}
 use Rattle.layout.proofs.Sound.{head-words, decoded, sound-at}
-use Rattle.processes.proofs.Bounds.{processes-length, processes-word}
+use Rattle.domain.proofs.ReadParams.{processes-length, processes-word}
 
 -- d with the first p processes absent
 abbrev absentTo : Domain → ℕ → Domain

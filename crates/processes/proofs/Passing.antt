@@ -12,7 +12,7 @@ use Rattle.layout.specs.Encode.{decode}
 use Rattle.layout.specs.Sound.{Sound}
 use Rattle.layout.specs.Values.{paramsValue}
 use Rattle.layout.specs.declared.Params.{Params}
-use Rattle.processes.proofs.Bounds.{processes-length, processes-word}
+use Rattle.domain.proofs.ReadParams.{processes-length, processes-word}
 
 -- the first p of n processes are tested, and ok says whether all of those pass
 pub record Passing (f : Process → Bool) (ws : List ℕ) (n p : ℕ) (ok : Bool) : Type 0 where

@@ -4,7 +4,8 @@ use mathlib.Core.Bool.{true, false}
 use mathlib.Core.Path.{_≡_, refl, sym, _∙_, ap, subst}
 use mathlib.Core.Logic.{_≢_}
 use Rattle.model.specs.State.{Domain, Step}
-use Rattle.model.specs.Kinds.{Kind, kindOf, numberOf, is, means, rowOf, ProcessId, HazardId, Allocate, Publish, Protect}
+use Rattle.model.specs.Kinds.{Kind, kindOf, numberOf, is, means, rowOf, ProcessId, HazardId, Allocate, Publish}
+use Rattle.model.specs.Kinds.{Protect}
 use Rattle.model.specs.Kinds.{Check, Use, Clear, Remove, Retire, Drain, Flush, Tick, Manage, ClearPresence, Unknown}
 use Rattle.model.proofs.KindNumbers.{number-of-kind}
 use Rattle.questions.specs.Own.{own, Bounded}

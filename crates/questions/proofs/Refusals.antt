@@ -1,12 +1,11 @@
 -- The refusal of a step in three parts: what the table asks of the numbers, what it asks of the node, and what the kind asks beside it.
 -- Assumes nothing.
-use Prim.Native.Nat.{ℕ, _<_}
-use mathlib.Core.Bool.{Bool, true, false, not, _&&_, cond}
+use Prim.Native.Nat.{ℕ}
+use mathlib.Core.Bool.{Bool, true, false, not, cond}
 use mathlib.Core.List.{List, [], _∷_, _++_}
 use mathlib.Core.Path.{_≡_, refl, sym, _∙_, ap}
 use mathlib.Core.Logic.{_≢_}
-use native.Mathlib.Omega.{arith}
-use borrow.Author.Tests.{ne-eqb, eq-eqb, eqb-false, ltb-true, not-true}
+use borrow.Author.Tests.{ne-eqb, ltb-true, not-true}
 use lib.ListN.{getD, take, drop}
 use lib.Dec.{ltb, eqb}
 use Rattle.lists.specs.Tests.{every, implies}

@@ -8,7 +8,8 @@ use lib.Dec.{ltb, eqb}
 use Rattle.lists.specs.Tests.{every, implies}
 use Rattle.model.specs.Params.{bufferSize, lastClock}
 use Rattle.model.specs.State.{Domain, Step, Reachable}
-use Rattle.model.specs.Kinds.{Kind, is, means, rowOf, ProcessId, HazardId, Protect, Check, Use, Clear, Drain, Tick, Manage}
+use Rattle.model.specs.Kinds.{Kind, is, means, rowOf, ProcessId, HazardId, Protect, Check, Use, Clear, Drain, Tick}
+use Rattle.model.specs.Kinds.{Manage}
 use Rattle.model.specs.Hazards.{here, pointer, target, young, unassigned}
 use Rattle.model.specs.Questions.{ask, firstNo}
 

@@ -27,14 +27,14 @@ fn reclaim(words: &mut [u32], p: ProcessId) -> u32
     ensures { λ r. ⌜ Does (reclaim (decode (now (words .entry))) (p .0)) (now (words .exit)) r ⌝ }
 {
     if domain::path(words) == 1 {
-        return processes::scan(words, p);
+        return scan::scan(words, p);
     }
     let a = domain::bounds(words);
     if domain::retired_count(words, p) < a.fallback {
         return 0;
     }
     fall_back(words);
-    processes::scan(words, p)
+    scan::scan(words, p)
 }
 
 // Retires a Removed node of process p; answers how many nodes it freed.

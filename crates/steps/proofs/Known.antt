@@ -1,19 +1,20 @@
 -- A step on sound words, refused and accepted. Assumes nothing.
 use Prim.Native.Nat.{ℕ}
 use mathlib.Core.List.{List}
-use mathlib.Core.Path.{_≡_, refl, sym, _∙_, ap}
+use mathlib.Core.Path.{_≡_, refl, sym, _∙_}
 use mathlib.Core.Logic.{_≢_}
-use borrow.Author.Tests.{eq-eqb, ne-eqb}
+use borrow.Author.Tests.{ne-eqb}
 use Rattle.model.specs.State.{Step}
 use Rattle.model.specs.Kinds.{kindOf}
 use Rattle.model.specs.Questions.{refusalOf}
-use Rattle.model.specs.Machine.{Outcome, refused, accepted, act, step}
+use Rattle.model.specs.Machine.{refused, accepted, act, step}
 use Rattle.model.proofs.Walk.{asked}
 use Rattle.model.proofs.WellFormed.{keep-act}
-use Rattle.layout.specs.Encode.{encode, decode}
+use Rattle.layout.specs.Encode.{decode}
 use Rattle.layout.specs.Sound.{Sound}
 use Rattle.layout.proofs.Sound.{sound-at}
-use Rattle.steps.specs.Stepped.{Acted, Stepped}
+use Rattle.acts.specs.Acted.{Acted}
+use Rattle.steps.specs.Stepped.{Stepped}
 
 module _ {ws : List ℕ} (s : Sound ws) (t : Step) (r : ℕ) (e : r ≡ refusalOf (kindOf (t .kind)) (decode ws) t) where
   outcome-refused : r ≢ 0 → step (decode ws) t ≡ refused r (decode ws)

@@ -1,3 +1,1 @@
-pub mod Yes
-pub mod ByNumber
 pub mod Known

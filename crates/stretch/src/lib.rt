@@ -1,6 +1,6 @@
 // A process's own stretch of the words, lent as a slice of exactly its 28 + 3K words, so that no function here can write another's: 4 words
-// of lead, 3 a hazard, and 8 places of 3 words for pending stores (see crate `buffer` too). k is the number of hazards, in some functions for the
-// contract alone.
+// of lead, 3 a hazard, and 8 places of 3 words for pending stores (see crate `buffer` too). k is the number of hazards, in some functions
+// for the contract alone.
 use layout::Hazard;
 use layout::HazardId;
 use layout::Lead;

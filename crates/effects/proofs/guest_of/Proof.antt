@@ -1,5 +1,5 @@
 -- `effects::guest_of` meets its contract: a validated hazard has a node, and it is one of the nodes. Assumes nothing.
-use mathlib.Core.Path.{_≡_, _∙_, ap, sym, refl}
+use mathlib.Core.Path.{_∙_, ap}
 use Prim.Native.Nat.{_-_}
 use Rattle.model.specs.State.{nodeOf}
 use Rattle.layout.specs.Encode.{decode}

@@ -1,5 +1,5 @@
 -- `effects::remove` meets its contract: by the node as it was. Assumes nothing.
-use mathlib.Core.Path.{_≡_, _∙_, ap, sym, refl}
+use mathlib.Core.Path.{_∙_, ap}
 use Rattle.model.specs.State.{setNode}
 use Rattle.model.specs.Machine.{removing}
 use Rattle.layout.specs.Encode.{encode, decode}

@@ -1,5 +1,5 @@
 -- `effects::tick` meets its contract: by the clock as it was. Assumes nothing.
-use mathlib.Core.Path.{_≡_, _∙_, ap, sym, refl}
+use mathlib.Core.Path.{_∙_, ap}
 use Prim.Native.Nat.{_+_}
 use Rattle.model.specs.State.{withClock}
 use Rattle.layout.specs.Encode.{encode, decode}

@@ -1,8 +1,5 @@
 -- `kinds::ranges` meets its contract: each way out by its question. Assumes nothing.
-use mathlib.Core.Path.{_≡_, refl, ap}
-use native.Mathlib.Omega.{arith}
 use borrow.Author.Needs.{needs}
-use Rattle.model.specs.Kinds.{kindOf}
 use Rattle.kinds.proofs.Rows.{unknown}
 use Rattle.kinds.proofs.Asked.{none-below, known, no-4, no-5, no-6, no-7, in-range}
 use Rattle.kinds.proofs.ranges.Statement.{statement}

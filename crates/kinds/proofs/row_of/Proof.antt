@@ -1,5 +1,5 @@
 -- `kinds::row_of` meets its contract: by the rule of the whole table, and for a number past it by the row of no kind. Assumes nothing.
-use mathlib.Core.Path.{_≡_, refl, sym, _∙_, ap}
+use mathlib.Core.Path.{sym, _∙_, ap}
 use native.Mathlib.Omega.{arith}
 use borrow.Author.Needs.{needs}
 use Rattle.lists.proofs.Table.{table-at}

@@ -1,6 +1,6 @@
 -- `questions::idle` meets its contract: by what the process answers. Assumes nothing.
-use mathlib.Core.Path.{_≡_, _∙_, ap, sym, refl}
-use mathlib.Core.Bool.{not, cond}
+use mathlib.Core.Path.{_∙_, ap}
+use mathlib.Core.Bool.{cond}
 use borrow.Author.Needs.{needs}
 use Rattle.questions.proofs.idle.Statement.{statement}
 use Rattle.questions.proofs.idle.Tie as tie

@@ -1,7 +1,6 @@
 -- `questions::own` meets its contract: each arm by its questions, the last by having none. Assumes nothing.
 use Prim.Native.Nat.{ℕ}
-use mathlib.Core.Path.{_≡_, _∙_, ap, sym, refl}
-use native.Mathlib.Omega.{arith}
+use mathlib.Core.Path.{_∙_, ap, sym, refl}
 use Rattle.model.specs.Kinds.{kindOf}
 use Rattle.layout.specs.Encode.{decode}
 use Rattle.questions.specs.Own.{own, stepOf}

@@ -1,5 +1,5 @@
 -- `questions::refusal` meets its contract: the first no of three parts. Assumes nothing.
-use mathlib.Core.Path.{_≡_, _∙_, ap, sym}
+use mathlib.Core.Path.{_∙_, ap, sym}
 use Rattle.model.specs.Kinds.{kindOf}
 use Rattle.layout.specs.Encode.{decode, decodeBy}
 use Rattle.domain.specs.Effects.{given}

@@ -1,5 +1,5 @@
 -- `questions::some_store` meets its contract: by the length of the buffer. Assumes nothing.
-use mathlib.Core.Path.{_≡_, _∙_, ap, sym, refl}
+use mathlib.Core.Path.{_∙_, ap}
 use mathlib.Core.Bool.{not, cond}
 use lib.Dec.{eqb}
 use borrow.Author.Needs.{needs}

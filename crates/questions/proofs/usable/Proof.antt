@@ -1,6 +1,6 @@
 -- `questions::usable` meets its contract: by the hazard. Assumes nothing.
-use mathlib.Core.Path.{_≡_, _∙_, ap, sym, refl}
-use mathlib.Core.Bool.{not, cond}
+use mathlib.Core.Path.{_∙_, ap}
+use mathlib.Core.Bool.{cond}
 use lib.Dec.{eqb}
 use borrow.Author.Needs.{needs}
 use Rattle.questions.proofs.usable.Statement.{statement}

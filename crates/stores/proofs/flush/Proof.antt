@@ -1,0 +1,33 @@
+-- `stores::flush` meets its contract: the stretch that comes back holds the process so changed. Assumes nothing.
+use Rattle.process.proofs.Processes.{lent-stretch, process-returned}
+use Rattle.model.specs.Hazards.{flushed}
+use borrow.Author.Needs.{needs}
+use Rattle.stores.proofs.flush.Statement.{statement}
+use Rattle.stores.proofs.flush.Tie as tie
+
+place-of-requires : tie.Need-place-of-requires
+place-of-requires c κs = search needs
+
+mul-flush : tie.Need-mul-flush
+mul-flush c = search needs
+
+sub-flush : tie.Need-sub-flush
+sub-flush c = search needs
+
+part-flush-start : tie.Need-part-flush-start
+part-flush-start c = search needs
+
+part-flush-end : tie.Need-part-flush-end
+part-flush-end c = search needs
+
+flush-requires : tie.Need-flush-requires
+flush-requires c κs = lent-stretch (c .before .before .before .before .pre .0) (c .before .before .before .before .pre .1) (c .before .place-of .ensures)
+
+same-length : tie.Need-same-length
+same-length c = search needs
+
+returns : tie.Need-returns
+returns c = process-returned (c .before .before .before .before .before .before .before .pre .0) (c .before .before .before .before .before .before .before .pre .1) (c .before .before .before .before .place-of .ensures) (λ x. flushed x (x .buffer)) _ (c .before .before .flush .ensures)
+
+pub flush-spec : {M : Type 1} → statement M
+flush-spec = tie.close (tie.spec place-of-requires mul-flush sub-flush part-flush-start part-flush-end flush-requires same-length returns)
