@@ -5,4 +5,3 @@ pub mod Stores
 pub mod Theorems
 pub mod Excluded
 pub mod Checked
-pub mod Turns

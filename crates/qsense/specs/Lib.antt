@@ -1,5 +1,4 @@
 pub mod Calls
-pub mod Runs
 pub mod Demands
 pub mod Impostors
 pub mod Values

@@ -1,13 +1,8 @@
--- The reply that an answer of the code and the words after the call make, and so for a run. Assumes nothing.
+-- The reply that an answer of the code and the words after the call make. Assumes nothing.
 use Prim.Native.Nat.{ℕ}
-use mathlib.Core.Bool.{Bool}
 use mathlib.Core.List.{List}
 use Rattle.qsense.specs.Calls.{Reply}
-use Rattle.qsense.specs.Runs.{Ran}
 use Rattle.qsense.specs.declared.Answer.{Answer}
 
 abbrev pub replyOf : Answer → List ℕ → Reply
 replyOf r ws = record { refusal = r .refusal; value = r .value; words = ws }
-
-abbrev pub ranOf : Bool → List ℕ → List ℕ → Ran
-ranOf taken ws answers = record { taken = taken; words = ws; answers = answers }

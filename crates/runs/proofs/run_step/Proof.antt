@@ -1,12 +1,12 @@
--- `qsense::run_step` meets its contract: the step of the i-th five words, and its answer in the i-th two. Assumes nothing.
+-- `runs::run_step` meets its contract: the step of the i-th five words, and its answer in the i-th two. Assumes nothing.
 use Prim.Native.Nat.{_+_, _*_}
 use mathlib.Core.Path.{ap}
 use native.Mathlib.Omega.{arith}
 use lib.ListN.{set, length-set}
 use borrow.Author.Needs.{needs}
 use Rattle.qsense.specs.Calls.{Reply}
-use Rattle.qsense.proofs.run_step.Statement.{statement}
-use Rattle.qsense.proofs.run_step.Tie as tie
+use Rattle.runs.proofs.run_step.Statement.{statement}
+use Rattle.runs.proofs.run_step.Tie as tie
 
 mul-at : tie.Need-mul-at
 mul-at c = search needs

@@ -1,4 +1,4 @@
--- `qsense::run` meets its contract. The loop's invariant: the words and the answers are on the way (`Going`) to what the whole list leaves,
+-- `runs::run` meets its contract. The loop's invariant: the words and the answers are on the way (`Going`) to what the whole list leaves,
 -- i steps of it being taken. The measure is what is left of the steps. Assumes nothing.
 use Prim.Native.Nat.{ℕ, _*_, _-_, _/_, _≤_}
 use mathlib.Core.Bool.{true}
@@ -8,10 +8,10 @@ use native.Mathlib.Omega.{arith}
 use lib.ListN.{length}
 use borrow.Author.Needs.{needs}
 use borrow.Author.Tests.{eq-eqb, ne-eqb}
-use Rattle.qsense.specs.Runs.{runInto}
-use Rattle.qsense.proofs.Turns.{Going, going-start, going-on, going-end}
-use Rattle.qsense.proofs.run.Statement.{statement}
-use Rattle.qsense.proofs.run.Tie as tie
+use Rattle.runs.specs.Runs.{runInto}
+use Rattle.runs.proofs.Turns.{Going, going-start, going-on, going-end}
+use Rattle.runs.proofs.run.Statement.{statement}
+use Rattle.runs.proofs.run.Tie as tie
 
 abbrev Inv-loop : tie.InvT-loop
 Inv-loop words₀ steps answers₀ count good i₀ words answers i =

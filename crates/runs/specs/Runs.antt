@@ -44,6 +44,10 @@ runInto ws steps answers =
       answers = answersOf ws (stepsIn (length steps / 5) steps);
     })
     (record { taken = false; words = ws; answers = answers })
+
+-- the same, of the code's answer and the lists after the call
+abbrev pub ranOf : Bool → List ℕ → List ℕ → Ran
+ranOf taken ws answers = record { taken = taken; words = ws; answers = answers }
 
 -- ---- one turn
 

@@ -10,8 +10,8 @@ use lib.Seq.{take-suc-set, take-set-le, take-all, drop-drop, getD-take, getD-dro
 use Rattle.model.specs.State.{Step}
 use Rattle.layout.specs.Shape.{word}
 use Rattle.layout.specs.Words.{wellFormed}
 use Rattle.qsense.specs.Calls.{stepWords, runWords}
-use Rattle.qsense.specs.Runs.{stepAt, stepsIn, answersOf, stepIn, Taken}
+use Rattle.runs.specs.Runs.{stepAt, stepsIn, answersOf, stepIn, Taken}
 
 -- the steps from the i-th to the last of n
 abbrev pub left : ℕ → List ℕ → ℕ → List Step
