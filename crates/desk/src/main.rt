@@ -8,8 +8,7 @@ use replay::End;
 use replay::Replayed;
 use trace::Header;
 use trace::Opened;
-ghost use mathlib.Core.Path.{_≡_};
-ghost use Prim.Native.Nat.{_+_, _*_, _≤_, _<_};
+ghost use Prim.Native.Nat.{_+_, _*_, _≤_};
 ghost use lib.ListN.{length};
 
 // ---- reading
@@ -63,55 +62,6 @@ fn read_all(fd: i32, buf: &mut [u8; 65537]) -> Input {
 
 // ---- the page
 
-// The byte of a digit.
-fn digit(n: u32) -> u8
-    requires { ⌜ n < 10 ⌝ }
-    ensures { λ r. ⌜ r ≡ 48 + n ⌝ }
-{
-    (48 + n) as u8
-}
-
-// How many decimal digits n has.
-fn digit_count(n: u32) -> usize
-    ensures { λ r. ⌜ (1 ≤ r) × (r ≤ 10) ⌝ }
-{
-    if n < 100 {
-        return if n < 10 { 1 } else { 2 };
-    }
-    if n < 10000 {
-        return if n < 1000 { 3 } else { 4 };
-    }
-    if n < 1000000 {
-        return if n < 100000 { 5 } else { 6 };
-    }
-    if n < 100000000 {
-        return if n < 10000000 { 7 } else { 8 };
-    }
-    if n < 1000000000 { 9 } else { 10 }
-}
-
-// Puts n's digits on the page from `at` on, then the byte `after`, and answers the place after it.
-fn put_number(page: &mut [u8; 4096], at: usize, n: u32, after: u8) -> usize
-    requires { ⌜ at ≤ 4080 ⌝ }
-    ensures { λ r. ⌜ r ≤ at + 11 ⌝ }
-{
-    if n < 10 {
-        page[at] = digit(n);
-        page[at + 1] = after;
-        return at + 2;
-    }
-    let end = at + digit_count(n);
-    page[end] = after;
-    let mut i = end;
-    let mut rest = n;
-    while i > at {
-        i -= 1;
-        page[i] = digit(rest % 10);
-        rest /= 10;
-    }
-    end + 1
-}
-
 // The first line.
 fn put_params(page: &mut [u8; 4096], params: Params) -> usize
     ensures { λ r. ⌜ r ≤ 71 ⌝ }
@@ -121,12 +71,12 @@ fn put_params(page: &mut [u8; 4096], params: Params) -> usize
     page[2] = b's';
     page[3] = b'k';
     page[4] = b' ';
-    let mut at = put_number(page, 5, params.processes, b' ');
-    at = put_number(page, at, params.hazards, b' ');
-    at = put_number(page, at, params.nodes, b' ');
-    at = put_number(page, at, params.visibility, b' ');
-    at = put_number(page, at, params.quiescence, b' ');
-    put_number(page, at, params.fallback, b'\n')
+    let mut at = page::put_number(page, 5, params.processes, b' ');
+    at = page::put_number(page, at, params.hazards, b' ');
+    at = page::put_number(page, at, params.nodes, b' ');
+    at = page::put_number(page, at, params.visibility, b' ');
+    at = page::put_number(page, at, params.quiescence, b' ');
+    page::put_number(page, at, params.fallback, b'\n')
 }
 
 // The line of step i: its number, its kind, and the three words of its answer.
@@ -136,11 +86,11 @@ fn put_step(page: &mut [u8; 4096], start: usize, steps: &[u8], lines: &[u32], i:
 {
     let k = layout::wide(i);
     let step = trace::step_at(steps, 12 * k);
-    let mut at = put_number(page, start, i, b' ');
-    at = put_number(page, at, step.kind, b' ');
-    at = put_number(page, at, lines[3 * k], b' ');
-    at = put_number(page, at, lines[3 * k + 1], b' ');
-    put_number(page, at, lines[3 * k + 2], b'\n')
+    let mut at = page::put_number(page, start, i, b' ');
+    at = page::put_number(page, at, step.kind, b' ');
+    at = page::put_number(page, at, lines[3 * k], b' ');
+    at = page::put_number(page, at, lines[3 * k + 1], b' ');
+    page::put_number(page, at, lines[3 * k + 2], b'\n')
 }
 
 // The last line.
@@ -152,9 +102,9 @@ fn put_end(page: &mut [u8; 4096], start: usize, end: End) -> usize
     page[start + 1] = b'n';
     page[start + 2] = b'd';
     page[start + 3] = b' ';
-    let mut at = put_number(page, start + 4, end.clock, b' ');
-    at = put_number(page, at, end.path, b' ');
-    put_number(page, at, end.reachable, b'\n')
+    let mut at = page::put_number(page, start + 4, end.clock, b' ');
+    at = page::put_number(page, at, end.path, b' ');
+    page::put_number(page, at, end.reachable, b'\n')
 }
 
 // ---- writing

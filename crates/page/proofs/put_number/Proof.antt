@@ -1,86 +1,80 @@
+-- `page::put_number` meets its contract. The loop's invariant: with the digits that are left stored too, the page is what it is to be.
+-- The measure is how many are left. Assumes nothing.
 use Prim.Native.Nat.{_≤_, _-_, _+_}
+use mathlib.Core.Path.{_≡_, refl, _∙_}
 use native.Mathlib.Omega.{arith}
+use lib.Seq.{sets}
 use borrow.Author.Needs.{needs}
-use Rattle.desk.proofs.put_number.Statement.{statement}
-use Rattle.desk.proofs.put_number.Tie as tie
-use Rattle.desk.proofs.put_number.Reads as reads
-use Rattle.desk.proofs.put_number.Lts as lts
-use Rattle.desk.proofs.digit.Reads as digit-reads
-use Rattle.desk.proofs.digit_count.Reads as digit-count-reads
+use Rattle.page.specs.Text.{digits}
+use Rattle.page.proofs.Digits.{again, ended, alone, one-digit}
+use Rattle.page.proofs.put_number.Statement.{statement}
+use Rattle.page.proofs.put_number.Tie as tie
 
 abbrev Inv-loop : tie.InvT-loop
-Inv-loop page₀ at n after end i₀ rest₀ page i rest = (at ≤ i) × (i ≤ 4090)
+Inv-loop page₀ at n after end i₀ rest₀ page i rest = 
+    (at ≤ i) × (i ≤ 4090) × (sets page at (digits (i - at) rest) ≡ sets page₀ at (digits (end - at) n))
 
 abbrev μ-loop : tie.MeasureT-loop
 μ-loop page₀ at n after end i₀ rest₀ page i rest = i - at
 
--- src/main.rt:103:20
 digit-requires : tie.Need-digit-requires Inv-loop μ-loop
 digit-requires c κs = search needs
 
--- src/main.rt:103:9
 element-write-page : tie.Need-element-write-page Inv-loop μ-loop
 element-write-page c = search needs
 
--- src/main.rt:104:14
 add-page : tie.Need-add-page Inv-loop μ-loop
 add-page c = search needs
 
--- src/main.rt:104:9
 element-write-page-2 : tie.Need-element-write-page-2 Inv-loop μ-loop
 element-write-page-2 c = search needs
 
--- src/main.rt:105:16
 add-result : tie.Need-add-result Inv-loop μ-loop
 add-result c = search needs
 
--- src/main.rt:105:9
 returns : tie.Need-returns Inv-loop μ-loop
-returns c = search needs
+returns c =
+    let d = one-digit (c .before .before .args .n) (omega arith) in
+    (omega arith, omega arith, alone _ _ _ _ _ (omega arith) (c .digit .ensures))
 
--- src/main.rt:107:20
 digit-count-requires : tie.Need-digit-count-requires Inv-loop μ-loop
 digit-count-requires c κs = search needs
 
--- src/main.rt:107:15
 add-end : tie.Need-add-end Inv-loop μ-loop
 add-end c = search needs
 
--- src/main.rt:108:5
 element-write-page-3 : tie.Need-element-write-page-3 Inv-loop μ-loop
 element-write-page-3 c = search needs
 
--- src/main.rt:111:5
 loop-holds : tie.Need-loop-holds Inv-loop μ-loop
-loop-holds c = search needs
+loop-holds c = (omega arith, omega arith, refl)
 
--- src/main.rt:112:9
 sub-i : tie.Need-sub-i Inv-loop μ-loop
 sub-i c = search needs
 
--- src/main.rt:113:19
 digit-requires-2 : tie.Need-digit-requires-2 Inv-loop μ-loop
 digit-requires-2 c κs = search needs
 
--- src/main.rt:113:9
 element-write-page-4 : tie.Need-element-write-page-4 Inv-loop μ-loop
 element-write-page-4 c = search needs
 
--- src/main.rt:111:5
 loop-less : tie.Need-loop-less Inv-loop μ-loop
 loop-less c = search needs
 
--- src/main.rt:111:5
 loop-again : tie.Need-loop-again Inv-loop μ-loop
-loop-again c = search needs
+loop-again c = (
+  omega arith,
+  omega arith,
+  again _ _ _ _ _ (omega arith) (c .digit2 .ensures) ∙ c .before .before .loop .inv .2,
+)
 
--- src/main.rt:116:5
 add-result-2 : tie.Need-add-result-2 Inv-loop μ-loop
 add-result-2 c = search needs
 
--- src/main.rt:98:1
 returns-2 : tie.Need-returns-2 Inv-loop μ-loop
-returns-2 c = search needs
+returns-2 c =
+    let k = c .before .before .digit-count .ensures .0 in
+    (omega arith, omega arith, ended _ _ _ _ _ _ _ _ (omega arith) k (c .before .loop .inv .2))
 
 pub put-number-spec : {M : Type 1} → statement M
 put-number-spec =
