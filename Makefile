@@ -1,8 +1,19 @@
-# make test: every check and test; its last line is 'N passed, M failed'.   make run: the main job on an example.
-.PHONY: test run
+# make test: every check and test; its last line is 'N passed, M failed'.   make run: replays the worked book of the paper.
+# make bench: times beside plain C.   make soak SECONDS=60: the library beside the model, for so long.
+.PHONY: test run bench soak
+SECONDS ?= 60
 
 test:
 	@tools/gate
 
-run:
-	@rt check
+run: target/bin/desk
+	@target/bin/desk < examples/first.book
+
+bench: target/bin/desk
+	@tools/bench
+
+soak:
+	@tools/soak $(SECONDS)
+
+target/bin/desk:
+	@rt check desk

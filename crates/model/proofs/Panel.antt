@@ -17,7 +17,7 @@ use Rattle.model.specs.Kinds.{Kind, kindOf, is, Allocate, Publish, Prote
 use Rattle.model.specs.Kinds.{Retire, Drain, Flush, Tick, Manage, ClearPresence, Unknown}
 use Rattle.model.specs.Retire.{Effect, marked}
 use Rattle.model.specs.Machine.{Outcome, act, stepAs, step, run, fresh}
-use Rattle.model.specs.Claims.{reachableCount, acceptedOf, Panel}
+use Rattle.model.specs.Claims.{reachableCount, acceptedOf, PanelStep, Panel}
 use Rattle.model.proofs.Walk.{Asked, by-step}
 use Rattle.model.proofs.KindNumbers.{same-kind}
 use Rattle.model.proofs.Freeing.{Reclaims, reclaim-reclaims, manage-reclaims}
@@ -92,6 +92,9 @@ unfolding step
 tally d s =
     tally-as (kindOf (s .kind)) (eqb (s .kind) 7) (eqb (s .kind) 2)
     (same-kind (s .kind) Remove refl) (same-kind (s .kind) Publish refl) d s
+
+pub panel-step : PanelStep
+panel-step d s f = tally d s (f .nodeCount) .1
 
 -- ---- A run
 

@@ -1,5 +1,5 @@
 -- Each claim of specs/Claims.antt, with its proof. Assumes nothing.
-use Rattle.model.specs.Claims.{RefusedUnchanged, UnreadFields, FreshWellFormed, StepWellFormed, Panel}
+use Rattle.model.specs.Claims.{RefusedUnchanged, UnreadFields, FreshWellFormed, StepWellFormed, PanelStep, Panel}
 use Rattle.model.specs.Claims.{FreedAreCounted, Demand3}
 use Rattle.model.proofs.Unread as Unread
 use Rattle.model.proofs.WellFormed as WellFormed
@@ -18,6 +18,9 @@ fresh-well-formed = WellFormed.well-formed-fresh
 
 pub step-well-formed : StepWellFormed
 step-well-formed = WellFormed.well-formed-step
+
+pub panel-step : PanelStep
+panel-step = Counted.panel-step
 
 pub panel : Panel
 panel = Counted.panel

@@ -60,6 +60,13 @@ abbrev pub Panel : Type 0
 Panel =
     (a : Params) (ss : List Step) → reachableCount (run (fresh a) ss) + acceptedOf 7 (fresh a) ss ≡ acceptedOf 2 (fresh a) ss
 
+-- in one step it rises by an accepted publish and falls by an accepted remove
+abbrev pub PanelStep : Type 0
+PanelStep =
+    (d : Domain) (s : Step) → WellFormed d
+    → reachableCount (step d s .after) + cond (eqb (step d s .refusal) 0 && eqb (s .kind) 7) 1 0
+    ≡ reachableCount d + cond (eqb (step d s .refusal) 0 && eqb (s .kind) 2) 1 0
+
 -- the kinds whose value is nodes freed: retire and manage
 abbrev pub reportsFreed : ℕ → Bool
 reportsFreed k = eqb k 8 || eqb k 12

@@ -73,8 +73,8 @@ fn mark_at(bytes: &[u8], at: usize) -> bool
         & ((bytes[at + 1] == b'B') & ((bytes[at + 2] == b'A') & (bytes[at + 3] == b'K')))
 }
 
-// Are there so many bytes from at on?
-fn holds(bytes: &[u8], at: usize, size: usize) -> bool
+// Are there so many bytes from at on? Neither number is too large.
+pub fn holds(bytes: &[u8], at: usize, size: usize) -> bool
     ensures { λ r. ⌜ r ≡ leb (at + size) (length (now (bytes .entry))) ⌝ }
 {
     if bytes.len() < size {
