@@ -10,8 +10,9 @@ use trace::Header;
 use trace::Opened;
 ghost use Prim.Native.Nat.{_+_, _*_, _≤_};
 ghost use lib.ListN.{length};
+ghost use Rattle.trace.specs.Values.{headerValue};
 ghost use Rattle.page.specs.Text.{Put};
-ghost use Rattle.desk.specs.Lines.{lineText};
+ghost use Rattle.desk.specs.Lines.{ReplayedIn, lineText};
 
 // ---- reading
 
@@ -137,8 +138,10 @@ fn print_lines(params: Params, steps: &[u8], count: u32, lines: &[u32], end: End
     let _done = write_page(&page, at);
 }
 
-// Replays a book on words and lines that have room for any.
-fn replay_book(words: &mut [u32], lines: &mut [u32], bytes: &[u8], header: Header) -> Replayed {
+// Replays a book on the first words and lines of two buffers, as many as it takes; where there is no room nothing is done.
+fn replay_book(words: &mut [u32], lines: &mut [u32], bytes: &[u8], header: Header) -> Replayed
+    ensures { λ r. ⌜ ReplayedIn (headerValue header) (now (bytes .entry)) (now (words .entry)) (now (lines .entry)) r (now (words .exit)) (now (lines .exit)) ⌝ }
+{
     let params = header.params;
     let long = layout::wide(qsense::length(params.processes, params.hazards, params.nodes));
     let many = 3 * layout::wide(header.count);
