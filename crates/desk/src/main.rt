@@ -10,6 +10,9 @@ use trace::Header;
 use trace::Opened;
 ghost use Prim.Native.Nat.{_+_, _*_, _≤_};
 ghost use lib.ListN.{length};
+ghost use Rattle.trace.specs.Values.{headerValue};
+ghost use Rattle.page.specs.Text.{Put};
+ghost use Rattle.desk.specs.Lines.{ReplayedIn, lineText};
 
 // ---- reading
 
@@ -60,53 +63,6 @@ fn read_all(fd: i32, buf: &mut [u8; 65537]) -> Input {
     Input::Bytes(done)
 }
 
-// ---- the page
-
-// The first line.
-fn put_params(page: &mut [u8; 4096], params: Params) -> usize
-    ensures { λ r. ⌜ r ≤ 71 ⌝ }
-{
-    page[0] = b'd';
-    page[1] = b'e';
-    page[2] = b's';
-    page[3] = b'k';
-    page[4] = b' ';
-    let mut at = page::put_number(page, 5, params.processes, b' ');
-    at = page::put_number(page, at, params.hazards, b' ');
-    at = page::put_number(page, at, params.nodes, b' ');
-    at = page::put_number(page, at, params.visibility, b' ');
-    at = page::put_number(page, at, params.quiescence, b' ');
-    page::put_number(page, at, params.fallback, b'\n')
-}
-
-// The line of step i: its number, its kind, and the three words of its answer.
-fn put_step(page: &mut [u8; 4096], start: usize, steps: &[u8], lines: &[u32], i: u32) -> usize
-    requires { ⌜ (start ≤ 4030) × (3 * i + 3 ≤ length (now lines)) ⌝ }
-    ensures { λ r. ⌜ r ≤ start + 55 ⌝ }
-{
-    let k = layout::wide(i);
-    let step = trace::step_at(steps, 12 * k);
-    let mut at = page::put_number(page, start, i, b' ');
-    at = page::put_number(page, at, step.kind, b' ');
-    at = page::put_number(page, at, lines[3 * k], b' ');
-    at = page::put_number(page, at, lines[3 * k + 1], b' ');
-    page::put_number(page, at, lines[3 * k + 2], b'\n')
-}
-
-// The last line.
-fn put_end(page: &mut [u8; 4096], start: usize, end: End) -> usize
-    requires { ⌜ start ≤ 4030 ⌝ }
-    ensures { λ r. ⌜ r ≤ start + 37 ⌝ }
-{
-    page[start] = b'e';
-    page[start + 1] = b'n';
-    page[start + 2] = b'd';
-    page[start + 3] = b' ';
-    let mut at = page::put_number(page, start + 4, end.clock, b' ');
-    at = page::put_number(page, at, end.path, b' ');
-    page::put_number(page, at, end.reachable, b'\n')
-}
-
 // ---- writing
 
 // Writes the first n bytes of text, and answers whether they were there and all written.
@@ -139,25 +95,53 @@ fn flushed(page: &[u8; 4096], at: usize) -> usize
 
 // ---- a book
 
+// The line of step i on the page: its number, its kind, and the three words of its answer.
+fn put_line(page: &mut [u8; 4096], start: usize, steps: &[u8], lines: &[u32], i: u32) -> usize
+    requires { ⌜ (start ≤ 4030) × (3 * i + 3 ≤ length (now lines)) ⌝ }
+    ensures { λ r. ⌜ Put (now (page .entry)) start (lineText (now (steps .entry)) (now (lines .entry)) i) (now (page .exit)) r × (r ≤ start + 55) ⌝ }
+{
+    let k = layout::wide(i);
+    let step = trace::step_at(steps, 12 * k);
+    page::put_step(
+        page,
+        start,
+        i,
+        step.kind,
+        lines[3 * k],
+        lines[3 * k + 1],
+        lines[3 * k + 2],
+    )
+}
+
 // Prints what a replay has left: the parameters, a line for each of the steps, and the last line.
 fn print_lines(params: Params, steps: &[u8], count: u32, lines: &[u32], end: End)
     requires { ⌜ 3 * count ≤ length (now lines) ⌝ }
 {
     let mut page = [0u8; 4096];
-    let mut at = put_params(&mut page, params);
+    let mut at = page::put_params(
+        &mut page,
+        params.processes,
+        params.hazards,
+        params.nodes,
+        params.visibility,
+        params.quiescence,
+        params.fallback,
+    );
     let mut i: u32 = 0;
     while i < count {
         at = flushed(&page, at);
-        at = put_step(&mut page, at, steps, lines, i);
+        at = put_line(&mut page, at, steps, lines, i);
         i += 1;
     }
     at = flushed(&page, at);
-    at = put_end(&mut page, at, end);
+    at = page::put_end(&mut page, at, end.clock, end.path, end.reachable);
     let _done = write_page(&page, at);
 }
 
-// Replays a book on words and lines that have room for any.
-fn replay_book(words: &mut [u32], lines: &mut [u32], bytes: &[u8], header: Header) -> Replayed {
+// Replays a book on the first words and lines of two buffers, as many as it takes; where there is no room nothing is done.
+fn replay_book(words: &mut [u32], lines: &mut [u32], bytes: &[u8], header: Header) -> Replayed
+    ensures { λ r. ⌜ ReplayedIn (headerValue header) (now (bytes .entry)) (now (words .entry)) (now (lines .entry)) r (now (words .exit)) (now (lines .exit)) ⌝ }
+{
     let params = header.params;
     let long = layout::wide(qsense::length(params.processes, params.hazards, params.nodes));
     let many = 3 * layout::wide(header.count);

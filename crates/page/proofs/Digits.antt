@@ -7,7 +7,7 @@ use native.Mathlib.Omega.{arith}
 use lib.ListN.{length, set, length-append}
 use lib.Seq.{sets}
 use borrow.Author.Tests.{lt-ltb}
-use Rattle.page.specs.Text.{digits, digitCount, numberText}
+use Rattle.page.specs.Text.{digits, digitCount, Put, numberText}
 
 -- stores at two places, in either order
 set-swap : (l : List ℕ) (i j a b : ℕ) → i ≢ j → set (set l i a) j b ≡ set (set l j b) i a
@@ -50,28 +50,69 @@ again page at i rest b h e =
     ∙ stored page at (i - 1 - at) rest
     ∙ ap (λ (k : ℕ). sets page at (digits k rest)) g
 
+text-length : (n after : ℕ) → length (numberText n after) ≡ digitCount n + 1
+text-length n after =
+    length-append (digits (digitCount n) n) (after ∷ []) ∙ (let e = digits-length (digitCount n) n in omega arith)
+
 -- all digits are stored, and the byte after them was stored first
-pub ended : (page start : List ℕ) (at i n k rest after : ℕ) → i ≡ at → k ≡ digitCount n
+pub ended : (page start : List ℕ) (at i n k rest after r : ℕ) → i ≡ at → k ≡ digitCount n → r ≡ at + k + 1
     → sets page at (digits (i - at) rest) ≡ sets (set start (at + k) after) at (digits (at + k - at) n)
-    → page ≡ sets start at (numberText n after)
+    → Put start at (numberText n after) page r
 unfolding digits
-ended page start at i n k rest after e c h =
+ended page start at i n k rest after r e c q h =
     let z : i - at ≡ 0 = omega arith in
     let w : at + k - at ≡ digitCount n = omega arith in
     let v : at + k ≡ at + length (digits (digitCount n) n) = omega (arith, digits-length (digitCount n) n) in
-    sym (ap (λ (j : ℕ). sets page at (digits j rest)) z) ∙ h
-    ∙ (λ t. sets (set start (v t) after) at (digits (w t) n))
-    ∙ sets-last (digits (digitCount n) n) start at after
+    record {
+      bytes = sym (ap (λ (j : ℕ). sets page at (digits j rest)) z) ∙ h
+          ∙ (λ t. sets (set start (v t) after) at (digits (w t) n))
+          ∙ sets-last (digits (digitCount n) n) start at after;
+      ends = omega (arith, text-length n after);
+    }
 
--- a single digit
-pub alone : (page : List ℕ) (at n after b : ℕ) → n < 10 → b ≡ 48 + n
-    → set (set page at b) (at + 1) after ≡ sets page at (numberText n after)
-unfolding digits digitCount
-alone page at n after b h e =
-    let m : b ≡ 48 + n % 10 = omega arith in
-    let s : at + 1 ≡ suc at = omega arith in
-    rw (lt-ltb n 10 h) (λ t. set (set page at (m t)) (s t) after)
-
-pub one-digit : (n : ℕ) → n < 10 → 1 ≡ digitCount n
+one-digit : (n : ℕ) → n < 10 → digitCount n ≡ 1
 unfolding digitCount
 one-digit n h = rw (lt-ltb n 10 h)
+
+-- a single digit
+pub alone : (page : List ℕ) (at n after b r : ℕ) → n < 10 → b ≡ 48 + n → r ≡ at + 2
+    → Put page at (numberText n after) (set (set page at b) (at + 1) after) r
+unfolding digits
+alone page at n after b r h e q =
+    let m : b ≡ 48 + n % 10 = omega arith in
+    let s : at + 1 ≡ suc at = omega arith in
+    let c = one-digit n h in
+    record {
+      bytes = (λ t. set (set page at (m t)) (s t) after) ∙ sym (ap (λ (k : ℕ). sets page at (digits k n ++ (after ∷ []))) c);
+      ends = omega (arith, text-length n after);
+    }
+
+-- ---- one text after another
+
+sets-append : (us vs l : List ℕ) (i : ℕ) → sets (sets l i us) (i + length us) vs ≡ sets l i (us ++ vs)
+sets-append [] vs l i = let e : i + 0 ≡ i = omega arith in ap (λ (k : ℕ). sets l k vs) e
+sets-append (u ∷ us) vs l i =
+    let e : i + suc (length us) ≡ suc i + length us = omega arith in
+    ap (λ (k : ℕ). sets (sets (set l i u) (suc i) us) k vs) e ∙ sets-append us vs (set l i u) (suc i)
+
+pub put-then : (page : List ℕ) (at : ℕ) (us : List ℕ) (page₁ : List ℕ) (at₁ : ℕ) (vs page₂ : List ℕ) (at₂ : ℕ)
+    → Put page at us page₁ at₁ → Put page₁ at₁ vs page₂ at₂ → Put page at (us ++ vs) page₂ at₂
+put-then page at us page₁ at₁ vs page₂ at₂ p q =
+    record {
+      bytes = q .bytes ∙ (λ t. sets (p .bytes t) (p .ends t) vs) ∙ sets-append us vs page at;
+      ends = omega (arith, p .ends, q .ends, length-append us vs);
+    }
+
+-- four bytes, stored one by one
+pub four : (page : List ℕ) (at a b c d : ℕ)
+    → Put page at (a ∷ b ∷ c ∷ d ∷ []) (set (set (set (set page at a) (at + 1) b) (at + 2) c) (at + 3) d) (at + 4)
+four page at a b c d =
+    let e : at + 1 ≡ suc at = omega arith in
+    let f : at + 2 ≡ suc (suc at) = omega arith in
+    let g : at + 3 ≡ suc (suc (suc at)) = omega arith in
+    record { bytes = λ t. set (set (set (set page at a) (e t) b) (f t) c) (g t) d; ends = refl }
+
+-- five at the start of the page
+pub five : (page : List ℕ) (a b c d e : ℕ)
+    → Put page 0 (a ∷ b ∷ c ∷ d ∷ e ∷ []) (set (set (set (set (set page 0 a) 1 b) 2 c) 3 d) 4 e) 5
+five page a b c d e = record { bytes = refl; ends = refl }

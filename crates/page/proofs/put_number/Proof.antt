@@ -1,17 +1,17 @@
 -- `page::put_number` meets its contract. The loop's invariant: with the digits that are left stored too, the page is what it is to be.
 -- The measure is how many are left. Assumes nothing.
-use Prim.Native.Nat.{_≤_, _-_, _+_}
+use Prim.Native.Nat.{_≤_, _-_}
 use mathlib.Core.Path.{_≡_, refl, _∙_}
 use native.Mathlib.Omega.{arith}
 use lib.Seq.{sets}
 use borrow.Author.Needs.{needs}
 use Rattle.page.specs.Text.{digits}
-use Rattle.page.proofs.Digits.{again, ended, alone, one-digit}
+use Rattle.page.proofs.Digits.{again, ended, alone}
 use Rattle.page.proofs.put_number.Statement.{statement}
 use Rattle.page.proofs.put_number.Tie as tie
 
 abbrev Inv-loop : tie.InvT-loop
-Inv-loop page₀ at n after end i₀ rest₀ page i rest = 
+Inv-loop page₀ at n after end i₀ rest₀ page i rest =
     (at ≤ i) × (i ≤ 4090) × (sets page at (digits (i - at) rest) ≡ sets page₀ at (digits (end - at) n))
 
 abbrev μ-loop : tie.MeasureT-loop
@@ -33,9 +33,7 @@ add-result : tie.Need-add-result Inv-loop μ-loop
 add-result c = search needs
 
 returns : tie.Need-returns Inv-loop μ-loop
-returns c =
-    let d = one-digit (c .before .before .args .n) (omega arith) in
-    (omega arith, omega arith, alone _ _ _ _ _ (omega arith) (c .digit .ensures))
+returns c = (alone _ _ _ _ _ _ (omega arith) (c .digit .ensures) (omega arith), omega arith)
 
 digit-count-requires : tie.Need-digit-count-requires Inv-loop μ-loop
 digit-count-requires c κs = search needs
@@ -74,7 +72,7 @@ add-result-2 c = search needs
 returns-2 : tie.Need-returns-2 Inv-loop μ-loop
 returns-2 c =
     let k = c .before .before .digit-count .ensures .0 in
-    (omega arith, omega arith, ended _ _ _ _ _ _ _ _ (omega arith) k (c .before .loop .inv .2))
+    (ended _ _ _ _ _ _ _ _ _ (omega arith) k (omega arith) (c .before .loop .inv .2), omega arith)
 
 pub put-number-spec : {M : Type 1} → statement M
 put-number-spec =
