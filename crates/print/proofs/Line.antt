@@ -5,7 +5,7 @@ use mathlib.Core.Path.{_≡_, ap, _∙_, subst}
 use lib.ListN.{getD}
 use Rattle.trace.specs.Bytes.{stepAt}
 use Rattle.page.specs.Text.{Put, stepText}
-use Rattle.desk.specs.Lines.{lineText}
+use Rattle.print.specs.Lines.{lineText}
 
 pub line-at : (steps lines : List ℕ) (i k kind : ℕ) (page : List ℕ) (at : ℕ) (page' : List ℕ) (at' : ℕ) → k ≡ i
     → kind ≡ stepAt steps (12 * k) .kind

@@ -1,11 +1,11 @@
--- `desk::put_line` meets its contract: the step's own numbers and the three words of its line. Assumes nothing.
+-- `print::put_line` meets its contract: the step's own numbers and the three words of its line. Assumes nothing.
 use mathlib.Core.Path.{ap}
 use native.Mathlib.Omega.{arith}
 use borrow.Author.Needs.{needs}
 use Rattle.model.specs.State.{Step}
-use Rattle.desk.proofs.Line.{line-at}
-use Rattle.desk.proofs.put_line.Statement.{statement}
-use Rattle.desk.proofs.put_line.Tie as tie
+use Rattle.print.proofs.Line.{line-at}
+use Rattle.print.proofs.put_line.Statement.{statement}
+use Rattle.print.proofs.put_line.Tie as tie
 
 wide-requires : tie.Need-wide-requires
 wide-requires c κs = search needs

@@ -1,9 +1,9 @@
--- `desk::read_all` meets its contract. The loop's invariant: what is done is inside the buffer; the measure is what is left of it.
+-- `input::read_all` meets its contract. The loop's invariant: what is done is inside the buffer; the measure is what is left of it.
 -- Assumes nothing.
 use Prim.Native.Nat.{_≤_, _-_}
 use borrow.Author.Needs.{needs}
-use Rattle.desk.proofs.read_all.Statement.{statement}
-use Rattle.desk.proofs.read_all.Tie as tie
+use Rattle.input.proofs.read_all.Statement.{statement}
+use Rattle.input.proofs.read_all.Tie as tie
 
 abbrev Inv-loop : tie.InvT-loop
 Inv-loop fd buf₀ done₀ buf done = done ≤ 65537

@@ -1,15 +1,15 @@
--- `desk::print_lines` meets its contract. Its loop needs no invariant; the measure is what is left of the steps. Assumes nothing.
+-- `print::print_lines` meets its contract. Its loop needs no invariant; the measure is what is left of the steps. Assumes nothing.
 use Prim.Native.Nat.{_-_}
 use native.Mathlib.Omega.{arith}
 use borrow.Author.Needs.{needs}
-use Rattle.desk.proofs.print_lines.Statement.{statement}
-use Rattle.desk.proofs.print_lines.Tie as tie
+use Rattle.print.proofs.print_lines.Statement.{statement}
+use Rattle.print.proofs.print_lines.Tie as tie
 
 abbrev Inv-loop : tie.InvT-loop
-Inv-loop steps count lines end page₀ at₀ i₀ page at i = Unit {0}
+Inv-loop steps count lines clock path reachable page₀ at₀ i₀ page at i = Unit {0}
 
 abbrev μ-loop : tie.MeasureT-loop
-μ-loop steps count lines end page₀ at₀ i₀ page at i = count - i
+μ-loop steps count lines clock path reachable page₀ at₀ i₀ page at i = count - i
 
 put-params-requires : tie.Need-put-params-requires Inv-loop μ-loop
 put-params-requires c κs = search needs
