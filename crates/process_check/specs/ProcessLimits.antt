@@ -35,8 +35,9 @@ unfoldable pub backedAt : List ℕ → ℕ → ℕ → Bool
 backedAt ws a k =
     allUpto (λ h. not (eqb (word ws (a + 3 * h + 1) + word ws (a + 3 * h + 2) * 4294967296) 4294967296)) k
 
-abbrev pub upToEight : ℕ → ℕ
-upToEight n = cond (ltb n 8) n 8
+-- n, or the last one where it is more
+abbrev pub upTo : ℕ → ℕ → ℕ
+upTo last n = cond (ltb n last) n last
 
 -- a process at place a, with k hazards
 unfoldable pub processWithin : List ℕ → List ℕ → List ℕ → ℕ → List ℕ → ℕ → Bool
@@ -44,7 +45,7 @@ processWithin lead hazards stores k ws a =
     backedAt ws (a + 4) k
     && (within ws a lead 0 4
     && (within ws (a + 4) hazards (24 - 3 * k) 24
-    && within ws (a + 4 + 3 * k) stores (24 - 3 * upToEight (word ws (a + 3))) 24))
+    && within ws (a + 4 + 3 * k) stores (24 - 3 * upTo 8 (word ws (a + 3))) 24))
 
 -- the numbers that the check of the processes goes by
 pub record Ready (ws : List ℕ) : Type 0 where

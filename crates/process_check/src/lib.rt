@@ -7,7 +7,7 @@ ghost use lib.ListN.{length};
 ghost use Rattle.layout.specs.Words.{processesFit};
 ghost use Rattle.faults.specs.Limits.{none};
 ghost use Rattle.process_check.specs.ProcessLimits.{leadLimits, sliding, hazardLimits, storeLimits};
-ghost use Rattle.process_check.specs.ProcessLimits.{backedAt, upToEight, processWithin, Ready};
+ghost use Rattle.process_check.specs.ProcessLimits.{backedAt, upTo, processWithin, Ready};
 
 // Eight times three limits, then 24 times one.
 fn slide(a: u32, b: u32, c: u32, rest: u32) -> [u32; 48]
@@ -97,25 +97,27 @@ fn store_limits(last: u32, m: u32, clock: u32) -> [u32; 48]
     slide(hazard, node, time, past)
 }
 
-// Whether none of k hazards, the words from `at` on, is validated with no node assigned: the two words are compared at once.
+// n, or the last one where it is more.
+fn at_most(n: usize, last: usize) -> usize
+    ensures { λ r. ⌜ (r ≡ upTo last n) × (r ≤ last) ⌝ }
+{
+    if n < last { n } else { last }
+}
+
+// Whether none of k hazards, the words from `at` on, is validated with no node assigned: the two words are compared at once. There are
+// always eight looks, the last hazard being looked at again where there are fewer, so that the compiler needs no loop.
 fn backed(words: &[u32], at: usize, k: usize) -> bool
-    requires { ⌜ at + 3 * k ≤ length (now words) ⌝ }
+    requires { ⌜ (1 ≤ k) × (k ≤ 8) × (at + 3 * k ≤ length (now words)) ⌝ }
     ensures { λ r. ⌜ r ≡ backedAt (now (words .entry)) at k ⌝ }
 {
     let mut ok = true;
     let mut h = 0;
-    while h < k {
-        ok = ok & (layout::pair(words[at + 3 * h + 1], words[at + 3 * h + 2]) != 4294967296);
+    while h < 8 {
+        let i = at_most(h, k - 1);
+        ok = ok & (layout::pair(words[at + 3 * i + 1], words[at + 3 * i + 2]) != 4294967296);
         h += 1;
     }
     ok
-}
-
-// n, or 8 where it is more.
-fn at_most_eight(n: u32) -> u32
-    ensures { λ r. ⌜ (r ≡ upToEight n) × (r ≤ 8) ⌝ }
-{
-    if n < 8 { n } else { 8 }
 }
 
 // The process whose words start at `at`.
@@ -128,7 +130,7 @@ fn process(
     hazards: &[u32],
     stores: &[u32],
 ) -> Faults
-    requires { ⌜ (k ≤ 8) × (at + (28 + 3 * k) ≤ length (now words)) ⌝ }
+    requires { ⌜ (1 ≤ k) × (k ≤ 8) × (at + (28 + 3 * k) ≤ length (now words)) ⌝ }
     requires { ⌜ (length (now lead) ≡ 4) × (length (now hazards) ≡ 48) × (length (now stores) ≡ 48) ⌝ }
     ensures { λ r. ⌜ none r ≡ (none faults && processWithin (now (lead .entry)) (now (hazards .entry)) (now (stores .entry)) k (now (words .entry)) at) ⌝ }
 {
@@ -140,7 +142,7 @@ fn process(
         words,
         at + 4 + 3 * k,
         stores,
-        24 - 3 * layout::wide(at_most_eight(words[at + 3])),
+        24 - 3 * at_most(layout::wide(words[at + 3]), 8),
         6,
     )
 }

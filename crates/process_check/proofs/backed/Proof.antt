@@ -1,23 +1,29 @@
--- `process_check::backed` meets its contract. The invariant: the first h hazards are backed. The measure: the hazards that are left. Assumes nothing.
+-- `process_check::backed` meets its contract. The invariant: what the first h looks say. The measure: the looks that are left. Assumes nothing.
 use Prim.Native.Nat.{_≤_, _-_}
-use mathlib.Core.Path.{_≡_}
+use mathlib.Core.Path.{_≡_, subst}
 use native.Mathlib.Omega.{arith}
 use borrow.Author.Needs.{needs}
+use Rattle.lists.specs.Upto.{allUpto}
 use Rattle.lists.proofs.Upto.{all-none}
-use Rattle.process_check.specs.ProcessLimits.{backedAt}
-use Rattle.process_check.proofs.Processes.{backed-more}
+use Rattle.process_check.specs.ProcessLimits.{upTo}
+use Rattle.process_check.proofs.Processes.{backedIn, backed-more, backed-all}
 use Rattle.process_check.proofs.backed.Statement.{statement}
 use Rattle.process_check.proofs.backed.Tie as tie
 
 abbrev Inv-loop : tie.InvT-loop
-Inv-loop words at k ok₀ h₀ ok h = (h ≤ k) × (ok ≡ backedAt words at h)
+Inv-loop words at k ok₀ h₀ ok h = (h ≤ 8) × (ok ≡ allUpto (λ j. backedIn words at (upTo (k - 1) j)) h)
 
 abbrev μ-loop : tie.MeasureT-loop
-μ-loop words at k ok₀ h₀ ok h = k - h
+μ-loop words at k ok₀ h₀ ok h = 8 - h
 
 loop-holds : tie.Need-loop-holds Inv-loop μ-loop
-unfolding backedAt
 loop-holds c = (omega arith, all-none _)
+
+sub-at-most : tie.Need-sub-at-most Inv-loop μ-loop
+sub-at-most c = search needs
+
+at-most-requires : tie.Need-at-most-requires Inv-loop μ-loop
+at-most-requires c κs = search needs
 
 mul-pair : tie.Need-mul-pair Inv-loop μ-loop
 mul-pair c = search needs
@@ -59,10 +65,16 @@ loop-less : tie.Need-loop-less Inv-loop μ-loop
 loop-less c = search needs
 
 loop-again : tie.Need-loop-again Inv-loop μ-loop
-loop-again c = (omega arith, backed-more _ _ _ _ _ (c .before .before .before .before .loop .inv .1) (c .pair .ensures .0))
+loop-again c =
+    let a = c .before .before .before .before .before .before .before .args in (
+      omega arith,
+      backed-more (a .words .now) (a .at) (a .k) (c .before .before .before .before .before .loop .h) _ _ _ (c .before .before .before .before .before .loop .inv .1) (c .before .before .before .at-most .ensures .0) (c .pair .ensures .0),
+    )
 
 returns : tie.Need-returns Inv-loop μ-loop
-returns c = let e : c .before .loop .h ≡ c .before .before .before .args .k = omega arith in rw (← e) (c .before .loop .inv .1)
+returns c =
+    let e : c .before .loop .h ≡ 8 = omega arith in
+    backed-all _ _ _ _ (c .before .before .before .pre .0) (c .before .before .before .pre .1) (rw e at (c .before .loop .inv .1))
 
 pub backed-spec : {M : Type 1} → statement M
 backed-spec =
@@ -71,6 +83,8 @@ backed-spec =
     Inv-loop
     μ-loop
     loop-holds
+    sub-at-most
+    at-most-requires
     mul-pair
     add-pair
     add-pair-2

@@ -1,7 +1,10 @@
 -- `process_check::process` meets its contract: four looks at its words, each of which adds its faults. Assumes nothing.
-use mathlib.Core.Path.{_∙_}
+use Prim.Native.Nat.{ℕ}
+use mathlib.Core.Path.{_∙_, ap}
+use Rattle.process_check.specs.ProcessLimits.{upTo}
 use Rattle.faults.specs.Limits.{none}
 use Rattle.process_check.proofs.Processes.{process-none}
+use native.Mathlib.Omega.{arith}
 use borrow.Author.Needs.{needs}
 use Rattle.process_check.proofs.process.Statement.{statement}
 use Rattle.process_check.proofs.process.Tie as tie
@@ -39,20 +42,20 @@ mul-pieces-2 c = search needs
 add-pieces-3 : tie.Need-add-pieces-3
 add-pieces-3 c = search needs
 
-add-at-most-eight : tie.Need-add-at-most-eight
-add-at-most-eight c = search needs
+add-wide : tie.Need-add-wide
+add-wide c = search needs
 
-mul-at-most-eight : tie.Need-mul-at-most-eight
-mul-at-most-eight c = search needs
+mul-wide : tie.Need-mul-wide
+mul-wide c = search needs
 
-shared-slice-read-at-most-eight : tie.Need-shared-slice-read-at-most-eight
-shared-slice-read-at-most-eight c = search needs
-
-at-most-eight-requires : tie.Need-at-most-eight-requires
-at-most-eight-requires c κs = search needs
+shared-slice-read-wide : tie.Need-shared-slice-read-wide
+shared-slice-read-wide c = search needs
 
 wide-requires : tie.Need-wide-requires
 wide-requires c κs = search needs
+
+at-most-requires : tie.Need-at-most-requires
+at-most-requires c κs = search needs
 
 mul-pieces-3 : tie.Need-mul-pieces-3
 mul-pieces-3 c = search needs
@@ -61,7 +64,7 @@ sub-pieces-2 : tie.Need-sub-pieces-2
 sub-pieces-2 c = search needs
 
 pieces-requires-3 : tie.Need-pieces-requires-3
-pieces-requires-3 c κs = search needs
+pieces-requires-3 c κs = (omega (arith, c .before .before .before .before .before .before .before .before .before .before .before .pre), omega (arith, c .before .before .before .before .before .before .before .before .before .before .before .pre, c .at-most .ensures .1))
 
 returns : tie.Need-returns
 returns c =
@@ -70,8 +73,9 @@ returns c =
     (c .before .before .before .before .before .before .noted .ensures)
     (c .before .before .before .before .before .pieces .ensures)
     (c .before .before .before .before .pieces2 .ensures)
-    (c .before .wide .ensures .0 ∙ c .before .before .at-most-eight .ensures .0)
+    (c .before .at-most .ensures .0 ∙ ap (λ (n : ℕ). upTo 8 n) (c .before .before .wide .ensures .0))
     (c .pieces3 .ensures)
 
 pub process-spec : {M : Type 1} → statement M
-process-spec = tie.close (tie.spec add-backed backed-requires noted-requires pieces-requires add-pieces mul-pieces sub-pieces pieces-requires-2 add-pieces-2 mul-pieces-2 add-pieces-3 add-at-most-eight mul-at-most-eight shared-slice-read-at-most-eight at-most-eight-requires wide-requires mul-pieces-3 sub-pieces-2 pieces-requires-3 returns)
+process-spec = tie.close (tie.spec add-backed backed-requires noted-requires pieces-requires add-pieces mul-pieces sub-pieces pieces-requires-2 add-pieces-2 mul-pieces-2 add-pieces-3 add-wide mul-wide shared-slice-read-wide wide-requires
+    at-most-requires mul-pieces-3 sub-pieces-2 pieces-requires-3 returns)

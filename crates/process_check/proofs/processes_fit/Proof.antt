@@ -88,6 +88,7 @@ process-requires : tie.Need-process-requires Inv-loop μ-loop
 process-requires c κs = (
   (
     omega arith,
+    omega arith,
     process-room (c .before .before .before .before .before .before .before .before .before .before .before .before .before .before .before .before .before .before .before .args .words .now) (c .before .before .before .before .before .before .before .before .before .before .before .before .before .before .wide2 .result) (c .before .before .before .before .loop .p) (c .before .before .before .before .loop .at) (c .before .before .before .before .before .before .before .before .before .before .before .before .before .before .before .before .before .before .before .pre) (c .before .before .before .before .before .before .before .before .before .before .before .before .before .before .wide2 .ensures .0) (omega arith)
         (c .before .before .before .before .loop .inv .1),
   ),
