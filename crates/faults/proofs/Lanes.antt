@@ -41,7 +41,7 @@ pub noted-none : (f : Faults) (b : Bool)
     })
     ≡ (none f && not b)
 unfolding none
-noted-none f b = noted (f .first) (f .second) (f .third) (f .fourth) (f .other) (ltb (f .states) 8) b
+noted-none f b = noted (f .first) (f .second) (f .third) (f .fourth) (f .other) (ltb (f .states) 1024) b
 
 -- ---- the states met
 
@@ -49,13 +49,13 @@ noted-none f b = noted (f .first) (f .second) (f .third) (f .fourth) (f .other) 
 or-most : (h s : ℕ) → (h ≤ bitOr h s) × (s ≤ bitOr h s)
 or-most h s = (omega (arith, or-add-and h s, and-le-r h s), omega (arith, or-add-and h s, and-le-l h s))
 
-states-met : (h s : ℕ) → ltb (bitOr h (s + 3)) 8 ≡ (ltb h 8 && leb s 4)
-states-met h s = go (ltb h 8) (leb s 4) refl refl
+states-met : (h s : ℕ) → ltb (bitOr h (s + 1019)) 1024 ≡ (ltb h 1024 && leb s 4)
+states-met h s = go (ltb h 1024) (leb s 4) refl refl
   where
-    go : (x y : Bool) → ltb h 8 ≡ x → leb s 4 ≡ y → ltb (bitOr h (s + 3)) 8 ≡ (x && y)
-    go true true e q = lt-ltb (bitOr h (s + 3)) 8 (or-lt 3 h (s + 3) (ltb-true h 8 e) (omega (arith, leb-true)))
-    go true false e q = le-ltb (bitOr h (s + 3)) 8 (omega (arith, or-most h (s + 3), leb-false))
-    go false y e q = le-ltb (bitOr h (s + 3)) 8 (omega (arith, or-most h (s + 3), ltb-false))
+    go : (x y : Bool) → ltb h 1024 ≡ x → leb s 4 ≡ y → ltb (bitOr h (s + 1019)) 1024 ≡ (x && y)
+    go true true e q = lt-ltb (bitOr h (s + 1019)) 1024 (or-lt 10 h (s + 1019) (ltb-true h 1024 e) (omega (arith, leb-true)))
+    go true false e q = le-ltb (bitOr h (s + 1019)) 1024 (omega (arith, or-most h (s + 1019), leb-false))
+    go false y e q = le-ltb (bitOr h (s + 1019)) 1024 (omega (arith, or-most h (s + 1019), ltb-false))
 
 pub stated-none : (f : Faults) (s t : ℕ) → t ≡ s
     → none
@@ -65,7 +65,7 @@ pub stated-none : (f : Faults) (s t : ℕ) → t ≡ s
       third = f .third;
       fourth = f .fourth;
       other = f .other;
-      states = bitOr (f .states) (t + 3);
+      states = bitOr (f .states) (t + 1019);
     })
     ≡ (none f && leb s 4)
 unfolding none
@@ -135,7 +135,7 @@ piece-none f ws ls a b t x y z et ex ey ez =
     (f .second)
     (f .third)
     (f .fourth)
-    (not (f .other) && ltb (f .states) 8)
+    (not (f .other) && ltb (f .states) 1024)
     (leb (word ws a) t)
     (leb (word ws (a + 1)) x)
     (leb (word ws (a + 2)) y)

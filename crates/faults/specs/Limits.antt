@@ -10,7 +10,7 @@ use Rattle.faults.specs.declared.Faults.{Faults}
 -- nothing was found amiss
 unfoldable pub none : Faults → Bool
 none f =
-    not (f .first) && (not (f .second) && (not (f .third) && (not (f .fourth) && (not (f .other) && ltb (f .states) 8))))
+    not (f .first) && (not (f .second) && (not (f .third) && (not (f .fourth) && (not (f .other) && ltb (f .states) 1024))))
 
 -- with the top bit of 32 turned
 unfoldable pub turned : ℕ → ℕ

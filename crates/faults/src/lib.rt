@@ -8,7 +8,8 @@ ghost use lib.Dec.{leb};
 ghost use Rattle.faults.specs.Limits.{none, turned, within};
 
 // Whether a word was over its limit, by the word's place in its piece of four, whether anything else was amiss, and the states met: each
-// with 3 added, so that a bit above the lowest three is set by a state that is not one of 0 to 4.
+// with 1019 added, so that a bit above the lowest ten is set by a state that is not one of 0 to 4. (Of 3 and three bits the loop over the
+// nodes would be three bytes shorter, and its jump would lie over a 32-byte line in every second link.)
 pub struct Faults {
     pub first: bool,
     pub second: bool,
@@ -38,7 +39,7 @@ pub fn is_clean(faults: Faults) -> bool
 {
     !faults.first
         & (!faults.second
-            & (!faults.third & (!faults.fourth & (!faults.other & (faults.states < 8)))))
+            & (!faults.third & (!faults.fourth & (!faults.other & (faults.states < 1024)))))
 }
 
 // The faults and one more, if it is one.
@@ -65,7 +66,7 @@ pub fn stated(faults: Faults, state: u32) -> Faults
         third: faults.third,
         fourth: faults.fourth,
         other: faults.other,
-        states: faults.states | (layout::wide(state) + 3),
+        states: faults.states | (layout::wide(state) + 1019),
     }
 }
 
