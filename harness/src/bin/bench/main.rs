@@ -27,12 +27,11 @@ fn main() {
         }
     };
     table::head();
-    for shape in SHAPES {
-        rows::all(Params::from_numbers(shape));
+    let shapes = SHAPES.map(Params::from_numbers);
+    for all in [rows::all, retire::all, cycles::all] {
+        shapes.into_iter().for_each(all);
     }
-    retire::all();
-    cycles::all(Params::from_numbers(SHAPES[3]));
     if let Some(desk) = desk {
-        processes::all(&desk, "target/plain/desk".as_ref());
+        shapes.into_iter().for_each(|params| processes::all(params, &desk, "target/plain/desk".as_ref()));
     }
 }

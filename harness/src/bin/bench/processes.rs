@@ -34,25 +34,17 @@ impl Work for Process<'_> {
     }
 }
 
-pub fn all(desk: &Path, plain: &Path) {
+pub fn all(params: Params, desk: &Path, plain: &Path) {
     let path = std::env::temp_dir().join(format!("qsense-bench-{}.book", std::process::id()));
-    for numbers in [[4, 2, 32, 5, 2, 8], [16, 8, 256, 5, 2, 24]] {
-        let params = Params::from_numbers(numbers);
-        let book = write(params, &schedule(params), 0);
-        std::fs::write(&path, &book).expect("a file in the folder for temporary files");
-        let [mut desk, mut plain] = [desk, plain].map(|program| Process { program, book: &path });
-        for process in [&desk, &plain] {
-            assert_eq!(
-                String::from_utf8_lossy(&process.output().stdout),
-                print(&book),
-                "{}",
-                process.program.display()
-            );
-        }
-        let best = race(40, STEPS, &mut [&mut desk, &mut plain]);
-        let name = format!("{}, a book of {STEPS} steps as a process, per step", shape(params));
-        line(&name, Row { library: best[0], plain: best[1], ..Row::default() });
+    let book = write(params, &schedule(params), 0);
+    std::fs::write(&path, &book).expect("a file in the folder for temporary files");
+    let [mut desk, mut plain] = [desk, plain].map(|program| Process { program, book: &path });
+    for process in [&desk, &plain] {
+        assert_eq!(String::from_utf8_lossy(&process.output().stdout), print(&book), "{}", process.program.display());
     }
+    let best = race(100, STEPS, &mut [&mut desk, &mut plain]);
+    let name = format!("{}, a book of {STEPS} steps as a process, per step", shape(params));
+    line(&name, Row { library: best[0], plain: best[1], ..Row::default() });
     std::fs::remove_file(&path).expect("the file that was written");
 }
 

@@ -1,6 +1,7 @@
-//! A retire that scans 256 nodes with 128 hazards set, when few, many or all of the nodes are due.
+//! A retire that scans all nodes with every hazard set, when few, many or all of the nodes are due.
 
 use crate::race::{race, Steps};
+use crate::rows::shape;
 use crate::table::{line, Row};
 use harness::library::{PLAIN, QSENSE};
 use harness::model::domain::{Domain, Node, Path};
@@ -13,42 +14,47 @@ use harness::step::{Kind, Step};
 const DOMAINS: usize = 16;
 const ROUNDS: u32 = 3_000;
 
-pub fn all() {
+pub fn all(params: Params) {
     let none = Step { kind: 0, process: 0, hazard: 0, node: 0, guest: 0 };
     let mut library = Vec::new();
-    // the node in hand is 0 ticks old, so at most 255 are due
-    for due in [3, 67, 255] {
-        let start: Vec<Vec<u32>> = (0..DOMAINS).map(|seed| scanning(due, seed as u64)).collect();
+    // the node in hand is 0 ticks old, so at most all the others are due
+    let most = params.nodes as usize - 1;
+    let mut dues = vec![most.min(3), most * 67 / 255, most];
+    dues.sort();
+    dues.dedup();
+    for due in dues {
+        let start: Vec<Vec<u32>> = (0..DOMAINS).map(|seed| scanning(params, due, seed as u64)).collect();
         let each = |step| (0..DOMAINS).map(|domain| (domain, step)).collect::<Vec<_>>();
         let (retires, checks) = (each(Step::new(Kind::Retire, 0, 0, 0, 0)), each(none));
         let [mut a, mut b] = [&QSENSE, &PLAIN].map(|calls| Steps::new(calls, &start, &retires));
         let [mut c, mut d] = [&QSENSE, &PLAIN].map(|calls| Steps::new(calls, &start, &checks));
         let best = race(ROUNDS, DOMAINS, &mut [&mut a, &mut b, &mut c, &mut d]);
         let row = |library, plain| Row { library, plain, ..Row::default() };
-        line(&format!("16 8 256, retire with scan, {due} nodes due"), row(best[0], best[1]));
+        let shape = shape(params);
+        line(&format!("{shape}, retire with scan, {due} nodes due"), row(best[0], best[1]));
         let less = row(best[0] - best[2], best[1] - best[3]);
-        line(&format!("16 8 256, the same less its check, {due} nodes due"), less);
+        line(&format!("{shape}, the same less its check, {due} nodes due"), less);
         library.push(best[0]);
     }
     let (least, most) = library.iter().fold((f64::MAX, 0f64), |(least, most), &t| (least.min(t), most.max(t)));
-    println!("the library's slowest retire takes {:.2} of its fastest", most / least);
+    println!("the library's slowest of these retires takes {:.2} of its fastest", most / least);
 }
 
 /// A domain on the fallback path whose every hazard has a node visible. Process 0 has removed node 0 and retired the others, `due` of
 /// them long ago.
-fn scanning(due: usize, seed: u64) -> Vec<u32> {
+fn scanning(params: Params, due: usize, seed: u64) -> Vec<u32> {
     let mut random = Random::new(seed, due as u64);
-    let mut domain = Domain::fresh(Params::from_numbers([16, 8, 256, 5, 2, 24]));
+    let mut domain = Domain::fresh(params);
     (domain.clock, domain.path) = (100, Path::Fallback);
     for hazard in domain.processes.iter_mut().flat_map(|process| &mut process.hazards) {
-        hazard.visible = Some(random.below(256));
+        hazard.visible = Some(random.below(params.nodes));
         hazard.assigned = hazard.visible;
     }
     domain.nodes.fill(Node::Retired { owner: 0, guest: 70, retired_at: 100, limbo: 0 });
     domain.nodes[0] = Node::Removed { owner: 0, guest: 70 };
     let mut left = due;
     while left > 0 {
-        let place = 1 + random.below(255) as usize;
+        let place = 1 + random.below(params.nodes - 1) as usize;
         if domain.nodes[place] == (Node::Retired { owner: 0, guest: 70, retired_at: 100, limbo: 0 }) {
             domain.nodes[place] = Node::Retired { owner: 0, guest: 70, retired_at: 10, limbo: 0 };
             left -= 1;
