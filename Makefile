@@ -16,4 +16,4 @@ soak:
 	@tools/soak $(SECONDS)
 
 target/bin/desk:
-	@rt check desk
+	@rt check desk >&2

@@ -3,7 +3,7 @@ use layout::NodeId;
 use layout::ProcessId;
 ghost use mathlib.Core.Path.{_≡_};
 ghost use mathlib.Core.Bool.{cond};
-ghost use Prim.Native.Nat.{_+_, _*_, _≤_, _<_};
+ghost use Prim.Native.Nat.{_+_, _≤_, _<_};
 ghost use lib.Dec.{eqb};
 ghost use Rattle.lists.specs.Tests.{count};
 ghost use Rattle.model.specs.State.{Reachable};

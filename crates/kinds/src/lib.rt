@@ -6,7 +6,7 @@ use layout::NodeId;
 use layout::Params;
 use layout::ProcessId;
 ghost use mathlib.Core.Path.{_≡_};
-ghost use Rattle.model.specs.Kinds.{kindOf};
+ghost use Rattle.model.specs.Kinds.{Kind, kindOf};
 ghost use Rattle.layout.specs.Values.{paramsValue};
 ghost use Rattle.kinds.specs.Table.{rowCode, ranges, held};
 
@@ -168,9 +168,16 @@ pub fn row_of(kind: u32) -> Row
     ROWS[layout::wide(kind)]
 }
 
-// Questions 4 to 7: is the kind known, and are process, hazard and node below their bounds, where they are read? 0 for yes.
-pub fn ranges(kind: u32, process: ProcessId, hazard: HazardId, node: NodeId, bounds: Params) -> u32
-    ensures { λ r. ⌜ r ≡ ranges (kindOf kind) (paramsValue bounds) (process .0) (hazard .0) (node .0) ⌝ }
+// Questions 4 to 7: is the kind known, and are process, hazard and node below their bounds, where its row reads them? 0 for yes.
+pub fn ranges(
+    kind: u32,
+    row: Row,
+    process: ProcessId,
+    hazard: HazardId,
+    node: NodeId,
+    bounds: Params,
+) -> u32
+    ensures { λ r. ⌜ (row ≡ rowCode (kindOf kind) → r ≡ ranges (kindOf kind) (paramsValue bounds) (process .0) (hazard .0) (node .0)) ⌝ }
 {
     if kind < 1 {
         return 4;
@@ -178,7 +185,6 @@ pub fn ranges(kind: u32, process: ProcessId, hazard: HazardId, node: NodeId, bou
     if kind > 13 {
         return 4;
     }
-    let row = row_of(kind);
     if (row.process == PROCESS) & (bounds.processes <= process.0) {
         return 5;
     }
@@ -191,11 +197,10 @@ pub fn ranges(kind: u32, process: ProcessId, hazard: HazardId, node: NodeId, bou
     0
 }
 
-// Questions 8 and 9: is the node in the state that the kind needs, and owned where it must be? 0 for yes.
-pub fn held(kind: u32, state: u32, owner: u32, process: ProcessId) -> u32
-    ensures { λ r. ⌜ r ≡ held (kindOf kind) state owner (process .0) ⌝ }
+// Questions 8 and 9: is the node in the state that the row needs, and owned where it must be? 0 for yes.
+pub fn held(row: Row, state: u32, owner: u32, process: ProcessId) -> u32
+    ensures { λ r. ⌜ ((k : Kind) → row ≡ rowCode k → r ≡ held k state owner (process .0)) ⌝ }
 {
-    let row = row_of(kind);
     if (row.needs != ANY) & (state != row.needs as u32) {
         return 8;
     }

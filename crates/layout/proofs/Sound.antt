@@ -15,7 +15,7 @@ use Rattle.layout.specs.Shape.{word, nodeWords}
 use Rattle.layout.specs.Codecs.{shape}
 use Rattle.layout.specs.Encode.{processWords, encode, decode, encodeBy, decodeBy}
 use Rattle.layout.specs.Sound.{Sizes, Sound}
-use Rattle.layout.proofs.Encode.{laid, encode-length, decode-encode, process-part, process-put, nodes-part}
+use Rattle.layout.proofs.Encode.{laid, encode-length, decode-encode, process-part, process-put}
 use Rattle.layout.proofs.Encode.{nodes-lent}
 
 -- the words of all processes are few
@@ -98,13 +98,6 @@ module _ {ws : List ℕ} (s : Sound ws) where
   -- ---- the nodes, from a on
 
   module _ (a : ℕ) (ea : a ≡ 9 + word ws 0 * (28 + 3 * word ws 1)) where
-    pub nodes-room : a ≤ length ws
-    nodes-room = omega (arith, s .sizes .long)
-
-    pub nodes-rows : drop a ws ≡ rows nodeWords (decode ws .nodes)
-    unfolding decodeBy
-    nodes-rows = ap (λ (r : List ℕ). drop a r) (s .whole) ∙ nodes-part shape (laid (s .domain)) a ea
-
     pub nodes-written : (w : ℕ) (ns : List Node) → w ≡ length ws - a → putMid a w ws (rows nodeWords ns) ≡ encode (withNodes (decode ws) ns)
     unfolding decodeBy
     nodes-written w ns ew =

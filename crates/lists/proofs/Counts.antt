@@ -1,4 +1,4 @@
--- Counts: of a weaker test, of an image, of a store, and place by place. Assumes nothing.
+-- Counts: of a weaker test, against the length, of an image, of a store, and place by place. Assumes nothing.
 use Prim.Native.Nat.{ℕ, zero, suc, _+_, _<_, _≤_}
 use mathlib.Core.Bool.{Bool, true, false, cond, false≢true}
 use mathlib.Core.List.{List, [], _∷_, map}
@@ -18,6 +18,14 @@ one-le false false m n f h = omega arith
 pub count-mono : {A : Type 0} (f g : A → Bool) (l : List A) → ((a : A) → f a ≡ true → g a ≡ true) → count f l ≤ count g l
 count-mono f g [] h = omega arith
 count-mono f g (x ∷ xs) h = one-le (f x) (g x) (count f xs) (count g xs) (h x) (count-mono f g xs h)
+
+pub count-most : {A : Type 0} (f : A → Bool) (l : List A) → count f l ≤ length l
+count-most f [] = omega arith
+count-most f (x ∷ xs) = by (f x) (count-most f xs)
+  where
+    by : (b : Bool) → count f xs ≤ length xs → cond b 1 0 + count f xs ≤ suc (length xs)
+    by true h = omega arith
+    by false h = omega arith
 
 pub count-map : {A B : Type 0} (f : B → Bool) (g : A → B) (l : List A) → count f (map g l) ≡ count (λ a. f (g a)) l
 count-map f g [] = refl

@@ -1,13 +1,13 @@
--- Words written one after the other into a list and into a row, a word of a row read, rows appended, a list with zeros behind it, and a
+-- Words written one after the other into a list and into a row, what is then at its front, a word of a row read, rows appended, a list with zeros behind it, and a
 -- part of a list lent and put back. Assumes nothing.
 use Prim.Native.Nat.{ℕ, zero, suc, _+_, _*_, _≤_, _<_}
 use mathlib.Core.List.{List, [], _∷_, _++_, append-assoc}
 use mathlib.Core.Path.{_≡_, refl, ap, _∙_}
 use native.Mathlib.Omega.{arith}
 use native.Mathlib.Nat.{zero-mul, suc-mul, zero-add, add-suc}
-use lib.ListN.{length, take, drop, getD, set, replicate, length-set, length-take, length-drop}
+use lib.ListN.{length, take, drop, getD, set, replicate, length-set, length-take, length-drop, length-append}
 use lib.ListN.{replicate-append-replicate}
-use lib.Seq.{set-append-left, getD-take, getD-drop, take-at, drop-at, sets}
+use lib.Seq.{set-append-left, getD-take, getD-drop, take-at, drop-at, sets, sets-eq}
 use borrow.Rule.Slice.PartMut.{putMid}
 use Rattle.lists.specs.Rows.{rows, unrows, Codec}
 use Rattle.lists.proofs.Rows.{Wide, below, set-append-add, unrows-getD}
@@ -21,6 +21,12 @@ pub sets-append-left : (vs xs ys : List ℕ) (i : ℕ) → i + length vs ≤ len
 sets-append-left [] xs ys i h = refl
 sets-append-left (v ∷ vs) xs ys i h =
     rw (set-append-left xs ys i v (omega arith)) (sets-append-left vs (set xs i v) ys (suc i) (simp length-set (omega arith)))
+
+-- up to the last of them
+pub take-sets : (vs l : List ℕ) (i n : ℕ) → n ≡ i + length vs → n ≤ length l → take n (sets l i vs) ≡ take i l ++ vs
+take-sets vs l i n e h =
+    let k : length (take i l ++ vs) ≡ n = simp (length-append, length-take) (omega arith) in
+    ap (λ (x : List ℕ). take n x) (sets-eq vs l i (omega arith)) ∙ take-at (take i l ++ vs) (drop (i + length vs) l) n k
 
 module _ {X : Type 0} (put : X → List ℕ) (w : ℕ) (x₀ : X) where
   -- words of row i written from its place j on

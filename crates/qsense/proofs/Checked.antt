@@ -2,16 +2,16 @@
 use Prim.Native.Nat.{ℕ}
 use mathlib.Core.Bool.{Bool, true, false}
 use mathlib.Core.List.{List}
-use mathlib.Core.Path.{_≡_, refl, sym, _∙_, ap}
+use mathlib.Core.Path.{_≡_, sym, _∙_}
 use Rattle.model.specs.State.{Step}
 use Rattle.model.specs.Machine.{step}
 use Rattle.model.specs.Claims.{reachableCount}
-use Rattle.layout.specs.Encode.{encode, decode}
+use Rattle.layout.specs.Encode.{decode}
 use Rattle.layout.specs.Words.{wellFormed}
 use Rattle.layout.specs.Sound.{Sound}
 use Rattle.layout.proofs.Checked.{well-formed-sound, sound-well-formed}
 use Rattle.steps.specs.Stepped.{Stepped}
-use Rattle.qsense.specs.Calls.{Reply, refusing, stepWords, reachableWords}
+use Rattle.qsense.specs.Calls.{refusing, stepWords, reachableWords}
 
 module _ (ws : List ℕ) (b : Bool) (e : b ≡ wellFormed ws) where
   pub checked : b ≡ true → Sound ws

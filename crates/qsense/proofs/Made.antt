@@ -1,6 +1,5 @@
 -- What make leaves where it accepts: the words of a fresh domain, with parameters in their ranges. Assumes nothing.
 use Prim.Native.Nat.{ℕ}
-use mathlib.Core.Bool.{true}
 use mathlib.Core.List.{List}
 use mathlib.Core.Path.{_≡_, refl}
 use native.Mathlib.Omega.{arith}

@@ -39,6 +39,10 @@ module _ (k : Kind) (d : Domain) (s : Step) where
       first-append (take 4 (questions k d s)) (drop 4 (questions k d s)) refl
       ∙ ap (first (firstNo (take 4 (questions k d s)))) (first-append (take 2 (drop 4 (questions k d s))) (drop 6 (questions k d s)) refl)
 
+-- of the bounds as the code has read them
+pub bounds-read : (k : Kind) (p h c : ℕ) {a b : Params} {r : ℕ} → r ≡ ranges k a p h c → a ≡ b → r ≡ ranges k b p h c
+bounds-read k p h c e q = e ∙ ap (λ a. ranges k a p h c) q
+
 -- each way out of the code
 module _ (k : Kind) (d : Domain) (s : Step) (r : ℕ) (er : r ≡ ranges k (d .params) (s .process) (s .hazard) (s .node)) where
   pub outside : r ≢ 0 → r ≡ refusalOf k d s

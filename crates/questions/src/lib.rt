@@ -1,4 +1,5 @@
 // The questions before a step, numbers 4 to 17 in the paper's order: the number of the first with the answer no, 0 where there is none.
+use kinds::Row;
 use layout::HazardId;
 use layout::NodeId;
 use layout::ProcessId;
@@ -10,13 +11,13 @@ ghost use lib.Dec.{ltb, eqb};
 ghost use Rattle.lists.specs.Tests.{every};
 ghost use Rattle.model.specs.Params.{bufferSize, lastClock};
 ghost use Rattle.model.specs.State.{nodeOf, processOf, hazardOf, Reachable};
-ghost use Rattle.model.specs.Kinds.{kindOf};
+ghost use Rattle.model.specs.Kinds.{Kind, kindOf};
 ghost use Rattle.model.specs.Hazards.{pointer, target, young, unassigned};
 ghost use Rattle.model.specs.Questions.{refusalOf};
 ghost use Rattle.layout.specs.Shape.{word};
 ghost use Rattle.layout.specs.Encode.{decode};
 ghost use Rattle.layout.specs.Sound.{Sound};
-ghost use Rattle.kinds.specs.Table.{held};
+ghost use Rattle.kinds.specs.Table.{rowCode, held};
 ghost use Rattle.domain.specs.Effects.{given};
 ghost use Rattle.questions.specs.Own.{stepOf, own, Bounded};
 
@@ -28,15 +29,15 @@ fn unless(yes: bool, number: u32) -> u32
 }
 
 // Questions 8 and 9, of the node that a step names; a node past the last is as one that is Free.
-fn node_questions(words: &[u32], kind: u32, p: ProcessId, c: NodeId) -> u32
+fn node_questions(words: &[u32], row: Row, p: ProcessId, c: NodeId) -> u32
     requires { ⌜ Sound (now words) ⌝ }
-    ensures { λ r. ⌜ r ≡ held (kindOf kind) (nodeOf (decode (now (words .entry))) (c .0) .state) (nodeOf (decode (now (words .entry))) (c .0) .owner) (p .0) ⌝ }
+    ensures { λ r. ⌜ ((k : Kind) → row ≡ rowCode k → r ≡ held k (nodeOf (decode (now (words .entry))) (c .0) .state) (nodeOf (decode (now (words .entry))) (c .0) .owner) (p .0)) ⌝ }
 {
     if domain::bounds(words).nodes <= c.0 {
-        return kinds::held(kind, 0, 0, p);
+        return kinds::held(row, 0, 0, p);
     }
     let x = domain::node(words, c);
-    kinds::held(kind, x.state, x.owner, p)
+    kinds::held(row, x.state, x.owner, p)
 }
 
 // Question 13: is there room in the buffer?
@@ -122,11 +123,12 @@ pub fn refusal(words: &[u32], kind: u32, p: ProcessId, h: HazardId, c: NodeId) -
     requires { ⌜ Sound (now words) ⌝ }
     ensures { λ r. ⌜ ((guest : ℕ) → r ≡ refusalOf (kindOf kind) (decode (now (words .entry))) (given kind (p .0) (h .0) (c .0) guest)) ⌝ }
 {
-    let outside = kinds::ranges(kind, p, h, c, domain::bounds(words));
+    let row = kinds::row_of(kind);
+    let outside = kinds::ranges(kind, row, p, h, c, domain::bounds(words));
     if outside != 0 {
         return outside;
     }
-    let unheld = node_questions(words, kind, p, c);
+    let unheld = node_questions(words, row, p, c);
     if unheld != 0 {
         return unheld;
     }

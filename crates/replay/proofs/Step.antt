@@ -9,7 +9,7 @@ use native.Mathlib.Omega.{arith}
 use lib.ListN.{length, set}
 use lib.Dec.{eqb}
 use borrow.Author.Tests.{ne-eqb, eqb-true}
-use Rattle.lists.specs.Tests.{count}
+use Rattle.lists.proofs.Counts.{count-most}
 use Rattle.model.specs.State.{Node, Step, Reachable}
 use Rattle.model.specs.Machine.{step}
 use Rattle.model.specs.Claims.{reachableCount}
@@ -24,14 +24,6 @@ use Rattle.replay.specs.Turn.{accepted, countAfter, Counted, Taken}
 
 -- ---- the reachable count
 
-count-le : {A : Type 0} (f : A → Bool) (l : List A) → count f l ≤ length l
-count-le f [] = omega arith
-count-le f (x ∷ xs) = by (f x) (count-le f xs)
-  where
-    by : (b : Bool) → count f xs ≤ length xs → cond b 1 0 + count f xs ≤ suc (length xs)
-    by true h = omega arith
-    by false h = omega arith
-
 -- a step is not both a remove and a publish
 apart : (k n m : ℕ) (a b : Bool) → eqb k 7 ≡ b → m + cond (a && b) 1 0 ≡ n + cond (a && eqb k 2) 1 0 → cond (a && b) 1 0 ≤ n
 apart k n m false b e h = omega arith
@@ -44,7 +36,7 @@ apart k n m true true e h =
 -- it stays far below the largest number of a word
 pub few : (ws : List ℕ) (n : ℕ) → Counted ws n → n < 4294967295
 few ws n (sound, e) =
-    let many = count-le (λ (x : Node). eqb (x .state) Reachable) (decode ws .nodes) in
+    let many = count-most (λ (x : Node). eqb (x .state) Reachable) (decode ws .nodes) in
     omega (arith, e, many, sound .domain .nodeCount, sound .domain .params .nodes .1)
 
 -- what `counted` answers, way by way
@@ -91,10 +83,12 @@ module _ (ws : List ℕ) (n : ℕ) (c : Counted ws n) (s : Step) (r v : ℕ) (ws
       let k = counted-after m e in
       let p : m ≡ reachableWords (stepWords ws s .words) .value =
       panel-is ws' m k ∙ ap (λ (x : Reply). reachableWords (x .words) .value) reply in
+      let second : 3 * i + 1 ≡ suc (3 * i) = omega arith in
+      let third : 3 * i + 2 ≡ suc (suc (3 * i)) = omega arith in
       record {
         counted = k;
         words = ap (λ (x : Reply). x .words) reply;
-        lines = λ t. set (set (set ls (3 * i) (reply t .refusal)) (3 * i + 1) (reply t .value)) (3 * i + 2) (p t);
+        lines = λ t. set (set (set ls (3 * i) (reply t .refusal)) (second t) (reply t .value)) (third t) (p t);
       }
 
 -- the same of a step that equals the one taken

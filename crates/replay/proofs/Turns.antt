@@ -3,8 +3,9 @@ use Prim.Native.Nat.{ℕ, suc, _+_, _*_, _-_, _≤_, _<_}
 use mathlib.Core.List.{List, [], _∷_, _++_, append-nil, append-assoc}
 use mathlib.Core.Path.{_≡_, refl, sym, ap, _∙_}
 use native.Mathlib.Omega.{arith}
-use lib.ListN.{length, set, take, length-set}
-use lib.Seq.{take-suc-set, take-all}
+use lib.ListN.{length, take, length-set}
+use lib.Seq.{take-all}
+use Rattle.lists.proofs.RowParts.{take-sets}
 use Rattle.model.specs.State.{Step}
 use Rattle.trace.specs.Bytes.{stepAt, stepsFrom}
 use Rattle.qsense.specs.Calls.{stepWords, reachableWords, runWords}
@@ -32,26 +33,6 @@ left-next bs first n i h =
     ap (λ (k : ℕ). stepsFrom bs (first + 12 * i) k) e
     ∙ ap (λ (at : ℕ). stepAt bs (first + 12 * i) ∷ stepsFrom bs at (n - (i + 1))) f
 
--- one line more
-take-line : (ls : List ℕ) (i a b c : ℕ) → 3 * i + 3 ≤ length ls
-    → take (3 * (i + 1)) (set (set (set ls (3 * i) a) (3 * i + 1) b) (3 * i + 2) c) ≡ take (3 * i) ls ++ (a ∷ b ∷ c ∷ [])
-take-line ls i a b c h =
-    let l₁ = set ls (3 * i) a in
-    let l₂ = set l₁ (3 * i + 1) b in
-    let e : 3 * (i + 1) ≡ suc (3 * i + 2) = omega arith in
-    let f : 3 * i + 2 ≡ suc (3 * i + 1) = omega arith in
-    let g : 3 * i + 1 ≡ suc (3 * i) = omega arith in
-    let one = take-suc-set ls (3 * i) a (omega arith) in
-    let two = take-suc-set l₁ (3 * i + 1) b (simp length-set (omega arith)) in
-    let three = take-suc-set l₂ (3 * i + 2) c (simp length-set (omega arith)) in
-    ap (λ (n : ℕ). take n (set l₂ (3 * i + 2) c)) e ∙ three
-    ∙ ap (λ (n : ℕ). take n l₂ ++ (c ∷ [])) f
-    ∙ ap (λ (l : List ℕ). l ++ (c ∷ [])) two
-    ∙ ap (λ (n : ℕ). take n l₁ ++ (b ∷ []) ++ (c ∷ [])) g
-    ∙ ap (λ (l : List ℕ). l ++ (b ∷ []) ++ (c ∷ [])) one
-    ∙ ap (λ (l : List ℕ). l ++ (c ∷ [])) (append-assoc (take (3 * i) ls) (a ∷ []) (b ∷ []))
-    ∙ append-assoc (take (3 * i) ls) (a ∷ b ∷ []) (c ∷ [])
-
 pub going-start : (n first : ℕ) (bs ws ls : List ℕ) (r : ℕ) → Counted ws r → Going n 0 first bs ws ls ws ls r
 going-start n first bs ws ls r c =
     let all : n - 0 ≡ n = omega arith in
@@ -74,7 +55,7 @@ going-on n i first bs ws₀ ls₀ ws ls r ws' ls' r' h l g t =
     let next = left-next bs first n i h in
     let rest = left bs first n (i + 1) in
     let front : take (3 * (i + 1)) ls' ≡ take (3 * i) ls ++ (a .refusal ∷ a .value ∷ m ∷ []) =
-    ap (λ (x : List ℕ). take (3 * (i + 1)) x) (t .lines) ∙ take-line ls i (a .refusal) (a .value) m (omega (arith, g .long)) in
+    ap (λ (x : List ℕ). take (3 * (i + 1)) x) (t .lines) ∙ take-sets (a .refusal ∷ a .value ∷ m ∷ []) ls (3 * i) (3 * (i + 1)) (omega arith) (omega (arith, g .long)) in
     record {
       counted = t .counted;
       words = ap (λ (w : List ℕ). runWords w rest) (t .words) ∙ sym (ap (λ (ss : List Step). runWords ws ss) next) ∙ g .words;

@@ -1,9 +1,9 @@
 -- One step of a replay, and all of them. Assumes nothing.
 use Prim.Native.Nat.{ℕ, _+_, _*_, _-_}
 use mathlib.Core.Bool.{_&&_, cond}
-use mathlib.Core.List.{List}
+use mathlib.Core.List.{List, [], _∷_}
 use mathlib.Core.Path.{_≡_}
-use lib.ListN.{set}
+use lib.Seq.{sets}
 use lib.Dec.{eqb}
 use Rattle.model.specs.State.{Step}
 use Rattle.model.specs.Claims.{reachableCount}
@@ -29,8 +29,7 @@ pub record Taken (s : Step) (i : ℕ) (ws ls ws' ls' : List ℕ) (n : ℕ) : Typ
   pub counted : Counted ws' n
   pub words : ws' ≡ stepWords ws s .words
   pub lines : ls'
-      ≡ set (set (set ls (3 * i) (stepWords ws s .refusal)) (3 * i + 1) (stepWords ws s .value)) (3 * i + 2)
-      (reachableWords (stepWords ws s .words) .value)
+      ≡ sets ls (3 * i) (stepWords ws s .refusal ∷ stepWords ws s .value ∷ reachableWords (stepWords ws s .words) .value ∷ [])
 
 -- the steps are taken, their lines are ls', and e is the last line
 pub record Ran (ss : List Step) (ws ws' ls' : List ℕ) (e : Last) : Type 0 where

@@ -1,12 +1,13 @@
 -- One turn of a run: what is left of the steps and of the answers, before and after it. Assumes nothing.
-use Prim.Native.Nat.{ℕ, suc, _+_, _*_, _-_, _/_, _≤_, _<_}
-use mathlib.Core.Bool.{Bool, true}
+use Prim.Native.Nat.{ℕ, suc, _+_, _*_, _-_, _≤_, _<_}
+use mathlib.Core.Bool.{Bool}
 use mathlib.Core.List.{List, [], _∷_, _++_, append-nil, append-assoc}
 use mathlib.Core.Path.{_≡_, refl, sym, ap, _∙_}
 use native.Mathlib.Omega.{arith}
 use native.Mathlib.Nat.{add-zero}
-use lib.ListN.{length, set, take, drop, length-set}
-use lib.Seq.{take-suc-set, take-set-le, take-all, drop-drop, getD-take, getD-drop}
+use lib.ListN.{length, take, drop, length-set}
+use lib.Seq.{take-all, drop-drop, getD-take, getD-drop}
+use Rattle.lists.proofs.RowParts.{take-sets}
 use Rattle.model.specs.State.{Step}
 use Rattle.layout.specs.Shape.{word}
 use Rattle.layout.specs.Words.{wellFormed}
@@ -42,19 +43,6 @@ left-next n i steps h =
     let f : 5 * i + 5 ≡ 5 * (i + 1) = omega arith in
     rw (e, drop-drop, f, step-is)
 
--- two answers more
-take-two : (rs : List ℕ) (i r v : ℕ) → 2 * i + 2 ≤ length rs
-    → take (2 * (i + 1)) (set (set rs (2 * i) r) (2 * i + 1) v) ≡ take (2 * i) rs ++ (r ∷ v ∷ [])
-take-two rs i r v h =
-    let e : 2 * (i + 1) ≡ suc (2 * i + 1) = omega arith in
-    let f : 2 * i + 1 ≡ suc (2 * i) = omega arith in
-    let one = take-suc-set rs (2 * i) r (omega arith) in
-    let two = take-suc-set (set rs (2 * i) r) (2 * i + 1) v (simp length-set (omega arith)) in
-    ap (λ (n : ℕ). take n (set (set rs (2 * i) r) (2 * i + 1) v)) e ∙ two
-    ∙ ap (λ (n : ℕ). take n (set rs (2 * i) r) ++ (v ∷ [])) f
-    ∙ ap (λ (l : List ℕ). l ++ (v ∷ [])) one
-    ∙ append-assoc (take (2 * i) rs) (r ∷ []) (v ∷ [])
-
 pub going-start : (b : Bool) (n : ℕ) (steps ws rs : List ℕ) → b ≡ wellFormed ws → Going b n 0 steps ws rs ws rs
 going-start b n steps ws rs e =
     let all : n - 0 ≡ n = omega arith in
@@ -72,7 +60,7 @@ going-on b n i steps ws₀ rs₀ ws rs ws' rs' h l g t =
     let r = stepWords ws s in
     let next = left-next n i steps h in
     let front : take (2 * (i + 1)) rs' ≡ take (2 * i) rs ++ (r .refusal ∷ r .value ∷ []) =
-    ap (λ (x : List ℕ). take (2 * (i + 1)) x) (t .answers) ∙ take-two rs i (r .refusal) (r .value) (omega (arith, g .long)) in
+    ap (λ (x : List ℕ). take (2 * (i + 1)) x) (t .answers) ∙ take-sets (r .refusal ∷ r .value ∷ []) rs (2 * i) (2 * (i + 1)) (omega arith) (omega (arith, g .long)) in
     record {
       good = t .good;
       words = ap (λ (w : List ℕ). runWords w (left n steps (i + 1))) (t .words)

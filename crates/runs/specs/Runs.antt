@@ -3,7 +3,8 @@ use Prim.Native.Nat.{ℕ, _+_, _*_, _/_}
 use mathlib.Core.Bool.{Bool, true, false, _&&_, cond}
 use mathlib.Core.List.{List, [], _∷_}
 use mathlib.Core.Path.{_≡_}
-use lib.ListN.{length, set}
+use lib.ListN.{length}
+use lib.Seq.{sets}
 use lib.Dec.{eqb}
 use Rattle.lists.specs.Rows.{unrows}
 use Rattle.model.specs.State.{Step}
@@ -58,5 +59,5 @@ stepIn steps i = given (word steps (5 * i)) (word steps (5 * i + 1)) (word steps
 -- step s is taken on words ws, its answer is the i-th, and the words are as good as they were
 pub record Taken (b : Bool) (s : Step) (i : ℕ) (ws rs ws' rs' : List ℕ) : Type 0 where
   pub words : ws' ≡ stepWords ws s .words
-  pub answers : rs' ≡ set (set rs (2 * i) (stepWords ws s .refusal)) (2 * i + 1) (stepWords ws s .value)
+  pub answers : rs' ≡ sets rs (2 * i) (stepWords ws s .refusal ∷ stepWords ws s .value ∷ [])
   pub good : b ≡ wellFormed ws'

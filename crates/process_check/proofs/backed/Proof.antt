@@ -1,6 +1,6 @@
 -- `process_check::backed` meets its contract. The invariant: what the first h looks say. The measure: the looks that are left. Assumes nothing.
 use Prim.Native.Nat.{_≤_, _-_}
-use mathlib.Core.Path.{_≡_, subst}
+use mathlib.Core.Path.{_≡_}
 use native.Mathlib.Omega.{arith}
 use borrow.Author.Needs.{needs}
 use Rattle.lists.specs.Upto.{allUpto}

@@ -1,7 +1,7 @@
 -- `process_check::processes_fit` meets its contract. The invariant: the first p processes fit, and process p starts at `at`. The measure:
 -- the processes that are left. Assumes nothing.
 use Prim.Native.Nat.{_≤_, _-_}
-use mathlib.Core.Path.{_≡_, refl, _∙_}
+use mathlib.Core.Path.{_≡_, _∙_}
 use lib.ListN.{length}
 use native.Mathlib.Omega.{arith}
 use borrow.Author.Needs.{needs}

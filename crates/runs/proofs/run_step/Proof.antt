@@ -1,6 +1,7 @@
 -- `runs::run_step` meets its contract: the step of the i-th five words, and its answer in the i-th two. Assumes nothing.
-use Prim.Native.Nat.{_+_, _*_}
+use Prim.Native.Nat.{_*_}
 use mathlib.Core.Path.{ap}
+use native.Mathlib.Numerals.{add-one}
 use native.Mathlib.Omega.{arith}
 use lib.ListN.{set, length-set}
 use borrow.Author.Needs.{needs}
@@ -89,7 +90,7 @@ returns c =
     let a = c .before .before .before .before .before .before .before .before .before .before .before .before .args in
     record {
       words = ap (λ (r : Reply). r .words) (e .0);
-      answers = λ t. set (set (a .answers .now) (2 * a .i) (e .0 t .refusal)) (2 * a .i + 1) (e .0 t .value);
+      answers = λ t. set (set (a .answers .now) (2 * a .i) (e .0 t .refusal)) (add-one (2 * a .i) t) (e .0 t .value);
       good = e .1;
     }
 
