@@ -39,6 +39,10 @@ impl Step {
         Step { kind: kind as u32, process, hazard, node, guest }
     }
 
+    pub fn from_numbers([kind, process, hazard, node, guest]: [u32; 5]) -> Step {
+        Step { kind, process, hazard, node, guest }
+    }
+
     pub fn numbers(self) -> [u32; 5] {
         [self.kind, self.process, self.hazard, self.node, self.guest]
     }

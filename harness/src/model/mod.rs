@@ -47,6 +47,24 @@ pub fn step_words(words: &mut Vec<u32>, step: Step, rules: Rules) -> Answer {
     answer
 }
 
+/// Takes steps on words, five numbers each, and writes their answers, two numbers each, as the library's run does. The words are read
+/// once, before the first step, and written once, after the last. False, and nothing written, where the lengths do not fit.
+pub fn run_words(words: &mut Vec<u32>, steps: &[u32], answers: &mut [u32], rules: Rules) -> bool {
+    if steps.len() % 5 != 0 || answers.len() != steps.len() / 5 * 2 {
+        return false;
+    }
+    let mut model = words::decode(words, rules).map(|domain| Model { rules, domain });
+    for (numbers, answer) in steps.chunks_exact(5).zip(answers.chunks_exact_mut(2)) {
+        let step = Step::from_numbers(numbers.try_into().expect("five numbers"));
+        let Answer { refusal, value } = model.as_mut().map_or(Answer::refused(3), |model| model.step(step));
+        answer.copy_from_slice(&[refusal, value]);
+    }
+    if let Some(model) = model {
+        words::encode(&model.domain, words);
+    }
+    true
+}
+
 /// The panel's answer on words.
 pub fn reachable_words(words: &[u32], rules: Rules) -> Answer {
     words::decode(words, rules).map_or(Answer::refused(3), |domain| Answer::accepted(domain.reachable()))

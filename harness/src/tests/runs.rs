@@ -1,4 +1,4 @@
-//! qsense_run beside qsense_step one by one, and slices of wrong lengths.
+//! qsense_run beside qsense_step one by one and beside the model's run, and slices of wrong lengths.
 
 use crate::arbitrary;
 use crate::compare::same;
@@ -6,7 +6,7 @@ use crate::library::{Calls, Lent};
 use crate::model::domain::Domain;
 use crate::model::mistake::Rules;
 use crate::model::words::encode;
-use crate::model::Model;
+use crate::model::{run_words, Model};
 use crate::params::Params;
 use crate::random::Random;
 use crate::schedule::Mood;
@@ -59,6 +59,11 @@ fn one(calls: &Calls, words: &[u32], schedule: &[Step]) -> Result<(), String> {
     if answers.words() != expected || !answers.is_intact() {
         return Err("run answers otherwise than steps".into());
     }
+    let (mut by_model, mut model_answers) = (words.to_vec(), vec![0; expected.len()]);
+    if !run_words(&mut by_model, &steps, &mut model_answers, Rules::default()) || model_answers != expected {
+        return Err("the model's run answers otherwise than steps".into());
+    }
+    same("run beside the model's", Answer::accepted(0), &batch, Answer::accepted(0), &by_model)?;
     same("run", Answer::accepted(0), &batch, Answer::accepted(0), single.words())
 }
 
@@ -77,9 +82,10 @@ pub fn wrong_lengths(calls: &Calls, seed: u64) -> Result<String, String> {
                 let mut lent = Lent::new(&words);
                 let mut answers = Lent::new(&vec![0xAAAA; answers_len]);
                 let taken = calls.run(lent.words_mut(), &steps[..steps_len], answers.words_mut());
+                let model = run_words(&mut words.clone(), &steps[..steps_len], answers.words_mut(), Rules::default());
                 let untouched = answers.is_intact() && answers.words().iter().all(|&word| word == 0xAAAA);
                 same("run", Answer::accepted(0), &lent, Answer::accepted(0), &words)?;
-                if taken || !untouched {
+                if taken || model || !untouched {
                     return Err(format!(
                         "{steps_len} step words, {answers_len} answer words: {taken}, {:?}",
                         answers.words()

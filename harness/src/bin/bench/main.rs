@@ -3,6 +3,7 @@
 //! round, and the best round of each counts. Buffers are not cleared between rounds; where a row changes its domains, they are copied
 //! back before each round, and that is not timed.
 
+mod callers;
 mod cycles;
 mod processes;
 mod race;

@@ -1,4 +1,4 @@
-//! A book of 5,000 steps through whole processes: the program `desk` beside the same in plain C.
+//! A book of 5,000 steps through whole processes: the program `desk`, the same in plain C, and the same by the model.
 
 use crate::race::{race, Work};
 use crate::rows::shape;
@@ -38,13 +38,16 @@ pub fn all(params: Params, desk: &Path, plain: &Path) {
     let path = std::env::temp_dir().join(format!("qsense-bench-{}.book", std::process::id()));
     let book = write(params, &schedule(params), 0);
     std::fs::write(&path, &book).expect("a file in the folder for temporary files");
-    let [mut desk, mut plain] = [desk, plain].map(|program| Process { program, book: &path });
-    for process in [&desk, &plain] {
+    let model = std::env::current_exe().expect("this program's path").with_file_name("replay");
+    let [mut desk, mut plain, mut model] = [desk, plain, &model].map(|program| Process { program, book: &path });
+    for process in [&desk, &plain, &model] {
         assert_eq!(String::from_utf8_lossy(&process.output().stdout), print(&book), "{}", process.program.display());
     }
-    let best = race(100, STEPS, &mut [&mut desk, &mut plain]);
+    let mut empty = Process { program: "true".as_ref(), book: &path };
+    let best = race(100, STEPS, &mut [&mut desk, &mut plain, &mut model, &mut empty]);
     let name = format!("{}, a book of {STEPS} steps as a process, per step", shape(params));
-    line(&name, Row { library: best[0], plain: best[1], ..Row::default() });
+    line(&name, Row { library: best[0], plain: best[1], model: best[2], ..Row::default() });
+    println!("to start and end a program that does nothing (true) takes {:.2} of C's time", best[3] / best[1]);
     std::fs::remove_file(&path).expect("the file that was written");
 }
 

@@ -1,8 +1,6 @@
 //! Contenders that do the same work, timed in turns.
 
-use harness::library::Calls;
-use harness::model::mistake::Rules;
-use harness::model::step_words;
+use crate::callers::Caller;
 use harness::step::Step;
 use std::hint::black_box;
 use std::time::Instant;
@@ -29,20 +27,20 @@ pub fn race(rounds: u32, units: usize, contenders: &mut [&mut dyn Work]) -> Vec<
 }
 
 /// Steps, each on one of some domains.
-pub struct Steps<'a> {
-    calls: &'a Calls,
+pub struct Steps<'a, C> {
+    caller: &'a C,
     start: &'a [Vec<u32>],
     domains: Vec<Vec<u32>>,
     schedule: &'a [(usize, Step)],
 }
 
-impl<'a> Steps<'a> {
-    pub fn new(calls: &'a Calls, start: &'a [Vec<u32>], schedule: &'a [(usize, Step)]) -> Steps<'a> {
-        Steps { calls, start, domains: start.to_vec(), schedule }
+impl<'a, C> Steps<'a, C> {
+    pub fn new(caller: &'a C, start: &'a [Vec<u32>], schedule: &'a [(usize, Step)]) -> Steps<'a, C> {
+        Steps { caller, start, domains: start.to_vec(), schedule }
     }
 }
 
-impl Work for Steps<'_> {
+impl<C: Caller> Work for Steps<'_, C> {
     fn restore(&mut self) {
         for (domain, start) in self.domains.iter_mut().zip(self.start) {
             domain.copy_from_slice(start);
@@ -51,72 +49,48 @@ impl Work for Steps<'_> {
 
     fn run(&mut self) {
         for &(domain, step) in self.schedule {
-            black_box(self.calls.step(&mut self.domains[domain], step));
-        }
-    }
-}
-
-/// The same steps by the model: words to records and back.
-pub struct ModelSteps<'a> {
-    start: &'a [Vec<u32>],
-    domains: Vec<Vec<u32>>,
-    schedule: &'a [(usize, Step)],
-}
-
-impl<'a> ModelSteps<'a> {
-    pub fn new(start: &'a [Vec<u32>], schedule: &'a [(usize, Step)]) -> ModelSteps<'a> {
-        ModelSteps { start, domains: start.to_vec(), schedule }
-    }
-}
-
-impl Work for ModelSteps<'_> {
-    fn restore(&mut self) {
-        self.domains = self.start.to_vec();
-    }
-
-    fn run(&mut self) {
-        for &(domain, step) in self.schedule {
-            black_box(step_words(&mut self.domains[domain], step, Rules::default()));
+            black_box(self.caller.step(&mut self.domains[domain], step));
         }
     }
 }
 
 /// One run of a list of steps.
-pub struct Run<'a> {
-    calls: &'a Calls,
+pub struct Run<'a, C> {
+    caller: &'a C,
     start: &'a [u32],
     words: Vec<u32>,
     steps: &'a [u32],
     answers: Vec<u32>,
 }
 
-impl<'a> Run<'a> {
-    pub fn new(calls: &'a Calls, start: &'a [u32], steps: &'a [u32]) -> Run<'a> {
-        Run { calls, start, words: start.to_vec(), steps, answers: vec![0; steps.len() / 5 * 2] }
+impl<'a, C> Run<'a, C> {
+    pub fn new(caller: &'a C, start: &'a [u32], steps: &'a [u32]) -> Run<'a, C> {
+        Run { caller, start, words: start.to_vec(), steps, answers: vec![0; steps.len() / 5 * 2] }
     }
 }
 
-impl Work for Run<'_> {
+impl<C: Caller> Work for Run<'_, C> {
     fn restore(&mut self) {
         self.words.copy_from_slice(self.start);
     }
 
     fn run(&mut self) {
-        assert!(self.calls.run(&mut self.words, self.steps, &mut self.answers));
+        assert!(self.caller.run(&mut self.words, self.steps, &mut self.answers));
+        black_box(&self.answers);
     }
 }
 
 /// The reachable count of each domain in turn.
-pub struct Counts<'a> {
-    pub calls: &'a Calls,
+pub struct Counts<'a, C> {
+    pub caller: &'a C,
     pub domains: &'a [Vec<u32>],
     pub turns: usize,
 }
 
-impl Work for Counts<'_> {
+impl<C: Caller> Work for Counts<'_, C> {
     fn run(&mut self) {
         for turn in 0..self.turns {
-            black_box(self.calls.reachable(&self.domains[turn % self.domains.len()]));
+            black_box(self.caller.reachable(&self.domains[turn % self.domains.len()]));
         }
     }
 }

@@ -1,6 +1,7 @@
 //! A retire that scans all nodes with every hazard set, when few, many or all of the nodes are due.
 
-use crate::race::{race, Steps};
+use crate::callers::{ByModel, Caller};
+use crate::race::{race, Steps, Work};
 use crate::rows::shape;
 use crate::table::{line, Row};
 use harness::library::{PLAIN, QSENSE};
@@ -13,31 +14,43 @@ use harness::step::{Kind, Step};
 /// Domains that are retired in one after another in a round, and copied back before the next.
 const DOMAINS: usize = 16;
 const ROUNDS: u32 = 3_000;
+const MODEL_ROUNDS: u32 = 300;
 
 pub fn all(params: Params) {
-    let none = Step { kind: 0, process: 0, hazard: 0, node: 0, guest: 0 };
-    let mut library = Vec::new();
     // the node in hand is 0 ticks old, so at most all the others are due
     let most = params.nodes as usize - 1;
     let mut dues = vec![most.min(3), most * 67 / 255, most];
     dues.sort();
     dues.dedup();
-    for due in dues {
-        let start: Vec<Vec<u32>> = (0..DOMAINS).map(|seed| scanning(params, due, seed as u64)).collect();
-        let each = |step| (0..DOMAINS).map(|domain| (domain, step)).collect::<Vec<_>>();
-        let (retires, checks) = (each(Step::new(Kind::Retire, 0, 0, 0, 0)), each(none));
-        let [mut a, mut b] = [&QSENSE, &PLAIN].map(|calls| Steps::new(calls, &start, &retires));
-        let [mut c, mut d] = [&QSENSE, &PLAIN].map(|calls| Steps::new(calls, &start, &checks));
-        let best = race(ROUNDS, DOMAINS, &mut [&mut a, &mut b, &mut c, &mut d]);
-        let row = |library, plain| Row { library, plain, ..Row::default() };
-        let shape = shape(params);
-        line(&format!("{shape}, retire with scan, {due} nodes due"), row(best[0], best[1]));
-        let less = row(best[0] - best[2], best[1] - best[3]);
+    let domains = |&due: &usize| (0..DOMAINS).map(|seed| scanning(params, due, seed as u64)).collect();
+    let starts: Vec<Vec<Vec<u32>>> = dues.iter().map(domains).collect();
+    let best = times(ROUNDS, &[&QSENSE, &PLAIN], &starts);
+    let model = times(MODEL_ROUNDS, &[&ByModel], &starts);
+    let shape = shape(params);
+    for (due, (best, model)) in dues.iter().zip(best.chunks_exact(4).zip(model.chunks_exact(2))) {
+        let row = |library, plain, model| Row { library, plain, model, ..Row::default() };
+        line(&format!("{shape}, retire with scan, {due} nodes due"), row(best[0], best[1], model[0]));
+        let less = row(best[0] - best[2], best[1] - best[3], model[0] - model[1]);
         line(&format!("{shape}, the same less its check, {due} nodes due"), less);
-        library.push(best[0]);
     }
-    let (least, most) = library.iter().fold((f64::MAX, 0f64), |(least, most), &t| (least.min(t), most.max(t)));
+    let library = best.chunks_exact(4).map(|best| best[0]);
+    let (least, most) = library.fold((f64::MAX, 0f64), |(least, most), t| (least.min(t), most.max(t)));
     println!("the library's slowest of these retires takes {:.2} of its fastest", most / least);
+}
+
+/// From each start, a retire by each caller, then a step of no kind, which is answered right after the check: all in turns.
+fn times<C: Caller>(rounds: u32, callers: &[&C], starts: &[Vec<Vec<u32>>]) -> Vec<f64> {
+    let none = Step { kind: 0, process: 0, hazard: 0, node: 0, guest: 0 };
+    let schedules = [Step::new(Kind::Retire, 0, 0, 0, 0), none]
+        .map(|step| (0..DOMAINS).map(|domain| (domain, step)).collect::<Vec<_>>());
+    let mut contenders = Vec::new();
+    for start in starts {
+        for schedule in &schedules {
+            contenders.extend(callers.iter().map(|caller| Steps::new(*caller, start, schedule)));
+        }
+    }
+    let mut works: Vec<&mut dyn Work> = contenders.iter_mut().map(|steps| steps as &mut dyn Work).collect();
+    race(rounds, DOMAINS, &mut works)
 }
 
 /// A domain on the fallback path whose every hazard has a node visible. Process 0 has removed node 0 and retired the others, `due` of

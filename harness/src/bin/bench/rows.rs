@@ -1,6 +1,7 @@
 //! Check, step, run and count at one shape, on one domain and on 64 in turn.
 
-use crate::race::{race, Counts, ModelSteps, Run, Steps};
+use crate::callers::ByModel;
+use crate::race::{race, Counts, Run, Steps, Work};
 use crate::table::{line, Row};
 use harness::arbitrary;
 use harness::library::{PLAIN, QSENSE, TRUSTING};
@@ -81,23 +82,31 @@ pub fn shape(params: Params) -> String {
 }
 
 fn steps(name: &str, start: &[Vec<u32>], schedule: &[(usize, Step)]) {
-    let (mut library, mut plain) = (Steps::new(&QSENSE, start, schedule), Steps::new(&PLAIN, start, schedule));
+    let [mut library, mut plain] = [&QSENSE, &PLAIN].map(|calls| Steps::new(calls, start, schedule));
     let best = race(ROUNDS, STEPS, &mut [&mut library, &mut plain]);
-    let model = race(MODEL_ROUNDS, STEPS, &mut [&mut ModelSteps::new(start, schedule)])[0];
-    line(name, Row { library: best[0], plain: best[1], model: Some(model), ..Row::default() });
+    let model = model(STEPS, &mut Steps::new(&ByModel, start, schedule));
+    line(name, Row { library: best[0], plain: best[1], model, ..Row::default() });
 }
 
 fn count(name: &str, domains: &[Vec<u32>]) {
-    let [mut library, mut plain] = [&QSENSE, &PLAIN].map(|calls| Counts { calls, domains, turns: STEPS });
+    let [mut library, mut plain] = [&QSENSE, &PLAIN].map(|caller| Counts { caller, domains, turns: STEPS });
     let best = race(ROUNDS, STEPS, &mut [&mut library, &mut plain]);
-    line(name, Row { library: best[0], plain: best[1], ..Row::default() });
+    let model = model(STEPS, &mut Counts { caller: &ByModel, domains, turns: STEPS });
+    line(name, Row { library: best[0], plain: best[1], model, ..Row::default() });
 }
 
-/// A run by the library, by C that checks before each step, and by C that checks once and trusts itself.
+/// A run by the library, by C that checks before each step, by C that checks once and trusts itself, and by the model, which reads the
+/// words once.
 pub fn run(name: &str, start: &[u32], schedule: &[(usize, Step)]) {
     let steps: Vec<u32> = schedule.iter().flat_map(|(_, step)| step.numbers()).collect();
     let [mut library, mut plain, mut trusting] =
         [&QSENSE, &PLAIN, &TRUSTING].map(|calls| Run::new(calls, start, &steps));
     let best = race(ROUNDS, schedule.len(), &mut [&mut library, &mut plain, &mut trusting]);
-    line(name, Row { library: best[0], plain: best[1], trusting: Some(best[2]), ..Row::default() });
+    let model = model(schedule.len(), &mut Run::new(&ByModel, start, &steps));
+    line(name, Row { library: best[0], plain: best[1], trusting: Some(best[2]), model });
+}
+
+/// The model by itself, in fewer rounds.
+fn model(units: usize, work: &mut dyn Work) -> f64 {
+    race(MODEL_ROUNDS, units, &mut [work])[0]
 }

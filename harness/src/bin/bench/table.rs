@@ -1,13 +1,13 @@
 //! The table that is printed.
 
-/// The best times of a row in ns; those of a contender that does not take part are left out.
+/// The best times of a row in ns.
 #[derive(Default)]
 pub struct Row {
     pub library: f64,
     pub plain: f64,
     /// plain C whose run checks the words once
     pub trusting: Option<f64>,
-    pub model: Option<f64>,
+    pub model: f64,
 }
 
 pub fn head() {
@@ -26,10 +26,10 @@ pub fn line(name: &str, row: Row) {
         time(Some(row.library)),
         time(Some(row.plain)),
         time(row.trusting),
-        time(row.model),
+        time(Some(row.model)),
         ratio(Some(row.library / row.plain)),
         ratio(row.trusting.map(|trusting| row.library / trusting)),
-        ratio(row.model.map(|model| model / row.plain)),
+        ratio(Some(row.model / row.plain)),
     ];
     println!("{name:54}{}", columns.map(|column| format!("{column:>11}")).concat());
 }

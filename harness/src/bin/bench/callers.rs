@@ -1,0 +1,42 @@
+//! Who does the work: the library and plain C by their calls, and the model on records, words to records and back.
+
+use harness::library::Calls;
+use harness::model::mistake::Rules;
+use harness::model::{reachable_words, run_words, step_words};
+use harness::step::{Answer, Step};
+
+pub trait Caller {
+    fn step(&self, words: &mut Vec<u32>, step: Step) -> Answer;
+    fn reachable(&self, words: &[u32]) -> Answer;
+    fn run(&self, words: &mut Vec<u32>, steps: &[u32], answers: &mut [u32]) -> bool;
+}
+
+impl Caller for Calls {
+    fn step(&self, words: &mut Vec<u32>, step: Step) -> Answer {
+        Calls::step(self, words, step)
+    }
+
+    fn reachable(&self, words: &[u32]) -> Answer {
+        Calls::reachable(self, words)
+    }
+
+    fn run(&self, words: &mut Vec<u32>, steps: &[u32], answers: &mut [u32]) -> bool {
+        Calls::run(self, words, steps, answers)
+    }
+}
+
+pub struct ByModel;
+
+impl Caller for ByModel {
+    fn step(&self, words: &mut Vec<u32>, step: Step) -> Answer {
+        step_words(words, step, Rules::default())
+    }
+
+    fn reachable(&self, words: &[u32]) -> Answer {
+        reachable_words(words, Rules::default())
+    }
+
+    fn run(&self, words: &mut Vec<u32>, steps: &[u32], answers: &mut [u32]) -> bool {
+        run_words(words, steps, answers, Rules::default())
+    }
+}
