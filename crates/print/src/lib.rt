@@ -19,15 +19,24 @@ fn write_page(page: &[u8; 4096], n: usize) -> bool {
     write_start(page, n)
 }
 
-// Writes out a page that a further line may not fit, and answers where the next line goes.
-fn flushed(page: &[u8; 4096], at: usize) -> usize
-    ensures { λ r. ⌜ r ≤ 4030 ⌝ }
+// Where the next line goes, and whether every page before it was written.
+struct Room {
+    at: usize,
+    written: bool,
+}
+
+// Writes out a page that a further line may not fit; written: whether those before it were.
+fn flushed(page: &[u8; 4096], at: usize, written: bool) -> Room
+    ensures { λ r. ⌜ r .at ≤ 4030 ⌝ }
 {
     if at <= 4030 {
-        return at;
+        return Room { at, written };
     }
-    let _done = write_start(page, at);
-    0
+    let done = write_start(page, at);
+    Room {
+        at: 0,
+        written: written & done,
+    }
 }
 
 // The line of step i on the page: its number, its kind, and the three words of its answer.
@@ -48,7 +57,7 @@ fn put_line(page: &mut [u8; 4096], start: usize, steps: &[u8], lines: &[u32], i:
     )
 }
 
-// Prints what a replay has left: the parameters, a line for each of the steps, and the last line.
+// Prints what a replay has left: the parameters, a line for each of the steps, and the last line; answers whether all was written.
 pub fn print_lines(
     params: Params,
     steps: &[u8],
@@ -57,7 +66,7 @@ pub fn print_lines(
     clock: u32,
     path: u32,
     reachable: u32,
-)
+) -> bool
     requires { ⌜ 3 * count ≤ length (now lines) ⌝ }
 {
     let mut page = [0u8; 4096];
@@ -70,13 +79,15 @@ pub fn print_lines(
         params.quiescence,
         params.fallback,
     );
+    let mut written = true;
     let mut i: u32 = 0;
     while i < count {
-        at = flushed(&page, at);
-        at = put_line(&mut page, at, steps, lines, i);
+        let room = flushed(&page, at, written);
+        at = put_line(&mut page, room.at, steps, lines, i);
+        written = room.written;
         i += 1;
     }
-    at = flushed(&page, at);
-    at = page::put_end(&mut page, at, clock, path, reachable);
-    let _done = write_page(&page, at);
+    let room = flushed(&page, at, written);
+    at = page::put_end(&mut page, room.at, clock, path, reachable);
+    room.written & write_page(&page, at)
 }

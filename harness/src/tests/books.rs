@@ -32,6 +32,7 @@ pub fn all(report: &mut Report, desk: &Path, folder: &Path, seed: u64) {
     test("65,536 and 65,537 bytes", &longest);
     test("in small chunks", &chunks);
     test("unreadable input", &unreadable);
+    test("unwritable output", &unwritable);
     for name in examples::NAMES {
         test(&format!("examples/{name}.book"), &|desk, _| same(desk, &examples::read(folder, name)?.0));
     }
@@ -39,9 +40,12 @@ pub fn all(report: &mut Report, desk: &Path, folder: &Path, seed: u64) {
 
 /// Runs `desk`, giving its input in pieces of at most `chunk` bytes.
 fn run(desk: &Path, input: &[u8], chunk: usize) -> Result<Output, String> {
-    let mut command = Command::new(desk);
-    let command = command.stdin(Stdio::piped()).stdout(Stdio::piped()).stderr(Stdio::piped());
-    let mut child = command.spawn().map_err(|error| format!("{}: {error}", desk.display()))?;
+    given(Command::new(desk).stdout(Stdio::piped()).stderr(Stdio::piped()), input, chunk)
+}
+
+/// Runs a command, giving its input in pieces of at most `chunk` bytes.
+fn given(command: &mut Command, input: &[u8], chunk: usize) -> Result<Output, String> {
+    let mut child = command.stdin(Stdio::piped()).spawn().map_err(|error| format!("{command:?}: {error}"))?;
     let mut pipe = child.stdin.take().expect("a pipe");
     let input = input.to_vec();
     let writer = std::thread::spawn(move || {
@@ -232,9 +236,30 @@ fn chunks(desk: &Path, seed: u64) -> Outcome {
 fn unreadable(desk: &Path, _: u64) -> Outcome {
     let directory = File::open("/").map_err(|error| error.to_string())?;
     let output = Command::new(desk).stdin(directory).output().map_err(|error| error.to_string())?;
+    match output.stdout.is_empty() {
+        true => complaint(&output),
+        false => Err(format!("standard output {:?}", String::from_utf8_lossy(&output.stdout))),
+    }
+}
+
+/// A device that is full as standard output, for a book of many pages, for one of a page and for one that is refused: a line on
+/// standard error each.
+fn unwritable(desk: &Path, seed: u64) -> Outcome {
+    let book = |length| book_of(&mut Random::new(seed, 7), Params::from_numbers([4, 2, 32, 3, 2, 4]), length);
+    let mut said = String::new();
+    for input in [book(700), book(1), Vec::new()] {
+        let mut command = Command::new(desk);
+        let full = File::options().write(true).open("/dev/full").map_err(|error| error.to_string())?;
+        said = complaint(&given(command.stdout(full).stderr(Stdio::piped()), &input, input.len().max(1))?)?;
+    }
+    Ok(said)
+}
+
+/// The one line on standard error.
+fn complaint(output: &Output) -> Outcome {
     let said = String::from_utf8_lossy(&output.stderr);
-    match (output.stdout.is_empty(), said.lines().count(), said.ends_with('\n')) {
-        (true, 1, true) => Ok(said.trim_end().to_string()),
-        _ => Err(format!("standard output {:?}, standard error {said:?}", String::from_utf8_lossy(&output.stdout))),
+    match (said.lines().count(), said.ends_with('\n')) {
+        (1, true) => Ok(said.trim_end().to_string()),
+        _ => Err(format!("standard error {said:?}")),
     }
 }

@@ -6,10 +6,10 @@ use Rattle.print.proofs.print_lines.Statement.{statement}
 use Rattle.print.proofs.print_lines.Tie as tie
 
 abbrev Inv-loop : tie.InvT-loop
-Inv-loop steps count lines clock path reachable page₀ at₀ i₀ page at i = Unit {0}
+Inv-loop steps count lines clock path reachable page₀ at₀ written₀ i₀ page at written i = Unit {0}
 
 abbrev μ-loop : tie.MeasureT-loop
-μ-loop steps count lines clock path reachable page₀ at₀ i₀ page at i = count - i
+μ-loop steps count lines clock path reachable page₀ at₀ written₀ i₀ page at written i = count - i
 
 put-params-requires : tie.Need-put-params-requires Inv-loop μ-loop
 put-params-requires c κs = search needs
