@@ -15,5 +15,6 @@ bench: target/bin/desk
 soak:
 	@tools/soak $(SECONDS)
 
-target/bin/desk:
+target/bin/desk: crates.txt $(shell find crates -name '*.rt' -o -name '*.antt')
 	@rt check desk >&2
+	@touch $@
