@@ -13,45 +13,21 @@ ghost use Rattle.node_check.specs.NodeLimits.{nodeLimits, nodeWithin};
 fn node_limits(last: u32, clock: u32) -> [u32; 32]
     ensures { λ r. ⌜ r ≡ nodeLimits last clock ⌝ }
 {
-    let none = faults::turned(0);
     let owner = faults::turned(last);
     let any = faults::turned(4294967295);
     let time = faults::turned(clock);
     let list = faults::turned(2);
-    [
-        none,
-        none,
-        none,
-        none,
-        owner,
-        any,
-        none,
-        none,
-        none, // a Reachable node has no owner
-        any,
-        none,
-        none,
-        owner,
-        any,
-        none, // a Removed node has no time of retirement
-        none,
-        owner,
-        any,
-        time,
-        list,
-        none,
-        none,
-        none,
-        none,
-        none,
-        none,
-        none,
-        none,
-        none,
-        none,
-        none,
-        none,
-    ]
+    let mut limits = [faults::turned(0); 32];
+    limits[4] = owner; // of Allocated
+    limits[5] = any;
+    limits[9] = any; // of Reachable, which has no owner
+    limits[12] = owner; // of Removed, which has no time of retirement
+    limits[13] = any;
+    limits[16] = owner; // of Retired
+    limits[17] = any;
+    limits[18] = time;
+    limits[19] = list;
+    limits
 }
 
 // The node whose words start at `at`.

@@ -1,11 +1,35 @@
--- What stands at a place of a sliding table of limits. Assumes nothing.
+-- A sliding table of limits: how it is laid out, and what stands at a place of it. Assumes nothing.
 use Prim.Native.Nat.{ℕ, zero, suc, _+_, _-_, _*_, _<_, _≤_}
-use mathlib.Core.List.{List, []}
-use mathlib.Core.Path.{_≡_, refl}
+use mathlib.Core.List.{List, [], _∷_}
+use mathlib.Core.Path.{_≡_, refl, ap, _∙_}
 use native.Mathlib.Omega.{arith}
-use lib.ListN.{replicate, getD-replicate}
+use lib.ListN.{set, replicate, getD-replicate}
+use lib.Seq.{sets}
 use Rattle.layout.specs.Shape.{word}
 use Rattle.process_check.specs.ProcessLimits.{threes, sliding}
+
+-- ---- laid out, three places at a time
+
+module _ (a b c : ℕ) where
+  threes-more : (n x y z : ℕ) (l : List ℕ) → sets (threes a b c n (x ∷ y ∷ z ∷ l)) (3 * n) (a ∷ b ∷ c ∷ []) ≡ threes a b c (suc n) l
+  threes-more zero x y z l = refl
+  threes-more (suc n) x y z l =
+      let e : 3 * suc n ≡ suc (suc (suc (3 * n))) = omega arith in
+      rw e (ap (λ (r : List ℕ). a ∷ b ∷ c ∷ r) (threes-more n x y z l))
+
+  pub slide-on : (rest i : ℕ) (l : List ℕ) → i < 8 → l ≡ threes a b c i (replicate (48 - 3 * i) rest)
+      → set (set (set l (3 * i) a) (3 * i + 1) b) (3 * i + 2) c ≡ threes a b c (i + 1) (replicate (48 - 3 * (i + 1)) rest)
+  slide-on rest i l h e =
+      let left : 48 - 3 * i ≡ suc (suc (suc (48 - 3 * (i + 1)))) = omega arith in
+      let second : 3 * i + 1 ≡ suc (3 * i) = omega arith in
+      let third : 3 * i + 2 ≡ suc (suc (3 * i)) = omega arith in
+      let next : suc i ≡ i + 1 = omega arith in
+      (λ t. set (set (set (e t) (3 * i) a) (second t) b) (third t) c)
+      ∙ ap (λ (k : ℕ). sets (threes a b c i (replicate k rest)) (3 * i) (a ∷ b ∷ c ∷ [])) left
+      ∙ threes-more i rest rest rest (replicate (48 - 3 * (i + 1)) rest)
+      ∙ ap (λ (k : ℕ). threes a b c k (replicate (48 - 3 * (i + 1)) rest)) next
+
+-- ---- read
 
 module _ (a b c : ℕ) (others : List ℕ) where
   threes-at : (n i j : ℕ) → i < n → j < 3 → word (threes a b c n others) (3 * i + j) ≡ word (threes a b c 1 []) j

@@ -13,56 +13,15 @@ ghost use Rattle.process_check.specs.ProcessLimits.{backedAt, upTo, proc
 fn slide(a: u32, b: u32, c: u32, rest: u32) -> [u32; 48]
     ensures { λ r. ⌜ r ≡ sliding a b c rest ⌝ }
 {
-    [
-        a,
-        b,
-        c,
-        a,
-        b,
-        c,
-        a,
-        b,
-        c,
-        a,
-        b,
-        c,
-        a,
-        b,
-        c,
-        a,
-        b,
-        c,
-        a,
-        b,
-        c,
-        a,
-        b,
-        c,
-        rest,
-        rest,
-        rest,
-        rest,
-        rest,
-        rest,
-        rest,
-        rest,
-        rest,
-        rest,
-        rest,
-        rest,
-        rest,
-        rest,
-        rest,
-        rest,
-        rest,
-        rest,
-        rest,
-        rest,
-        rest,
-        rest,
-        rest,
-        rest,
-    ]
+    let mut limits = [rest; 48];
+    let mut i = 0;
+    while i < 8 {
+        limits[3 * i] = a;
+        limits[3 * i + 1] = b;
+        limits[3 * i + 2] = c;
+        i += 1;
+    }
+    limits
 }
 
 // The limits of a process's first four words; last is the last count of calls.
