@@ -1,7 +1,7 @@
 // The values that travel by value: ids, parameters, and the records that stand in a domain's words; a word as an index, where things
 // stand, and words cleared.
 ghost use mathlib.Core.Path.{_≡_};
-ghost use Prim.Native.Nat.{_+_, _*_, _<_, _≤_};
+ghost use Prim.Native.Nat.{_+_, _*_, _<_, _≤_, _/_, _%_};
 ghost use lib.ListN.{length, replicate};
 ghost use Rattle.layout.specs.Codecs.{shape};
 ghost use Rattle.layout.specs.Shape.{processStart};
@@ -58,6 +58,19 @@ pub fn pair(low: u32, high: u32) -> usize
     ensures { λ r. ⌜ (r ≡ low + high * 4294967296) × (low < 4294967296) ⌝ }
 {
     wide(low) + wide(high) * 4294967296
+}
+
+// The first of two words that are one number, and the second.
+pub fn low(pair: usize) -> u32
+    ensures { λ r. ⌜ r ≡ pair % 4294967296 ⌝ }
+{
+    (pair % 4294967296) as u32
+}
+
+pub fn high(pair: usize) -> u32
+    ensures { λ r. ⌜ r ≡ pair / 4294967296 ⌝ }
+{
+    (pair / 4294967296) as u32
 }
 
 // Where process p starts, with k hazards a process; of the number of processes, where the nodes start.

@@ -1,8 +1,10 @@
 -- A call that checks its words first: refused with 3, or what it does to sound words. Assumes nothing.
-use Prim.Native.Nat.{ℕ}
+use Prim.Native.Nat.{ℕ, _+_, _*_, _/_, _%_, _<_}
 use mathlib.Core.Bool.{Bool, true, false}
 use mathlib.Core.List.{List}
 use mathlib.Core.Path.{_≡_, sym, _∙_}
+use native.Mathlib.Omega.{arith}
+use lib.Arith.{digits-div, digits-mod}
 use Rattle.model.specs.State.{Step}
 use Rattle.model.specs.Machine.{step}
 use Rattle.model.specs.Claims.{reachableCount}
@@ -11,7 +13,8 @@ use Rattle.layout.specs.Words.{wellFormed}
 use Rattle.layout.specs.Sound.{Sound}
 use Rattle.layout.proofs.Checked.{well-formed-sound, sound-well-formed}
 use Rattle.steps.specs.Stepped.{Stepped}
-use Rattle.qsense.specs.Calls.{refusing, stepWords, reachableWords}
+use Rattle.qsense.specs.Calls.{Reply, refusing, stepWords, reachableWords}
+use Rattle.qsense.specs.Values.{pairReply}
 
 module _ (ws : List ℕ) (b : Bool) (e : b ≡ wellFormed ws) where
   pub checked : b ≡ true → Sound ws
@@ -36,3 +39,13 @@ module _ (ws : List ℕ) (b : Bool) (e : b ≡ wellFormed ws) where
     rw (← e, t) (λ i. record { refusal = h .refusal i; value = h .value i; words = h .words i }),
     t ∙ sym (sound-well-formed (h .sound)),
   )
+
+-- an answer of two words that is one number
+pub paired : (r v n : ℕ) (ws : List ℕ) → n ≡ r + v * 4294967296 → r < 4294967296 → pairReply n ws ≡ record { refusal = r; value = v; words = ws }
+paired r v n ws e h =
+    let f : n ≡ v * 4294967296 + r = omega arith in
+    rw f (λ t. record { refusal = digits-mod v h t; value = digits-div v h t; words = ws })
+
+pub unpaired : (n : ℕ) {r v : ℕ} {ws : List ℕ} {x : Reply} → r ≡ n % 4294967296 → v ≡ n / 4294967296 → pairReply n ws ≡ x
+    → record { refusal = r; value = v; words = ws } ≡ x
+unpaired n {ws = ws} p q e = (λ t. record { refusal = p t; value = q t; words = ws }) ∙ e

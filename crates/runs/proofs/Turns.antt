@@ -1,17 +1,20 @@
 -- One turn of a run: what is left of the steps and of the answers, before and after it. Assumes nothing.
-use Prim.Native.Nat.{ℕ, suc, _+_, _*_, _-_, _≤_, _<_}
+use Prim.Native.Nat.{ℕ, suc, _+_, _*_, _-_, _/_, _%_, _≤_, _<_}
 use mathlib.Core.Bool.{Bool}
 use mathlib.Core.List.{List, [], _∷_, _++_, append-nil, append-assoc}
 use mathlib.Core.Path.{_≡_, refl, sym, ap, _∙_}
+use native.Mathlib.Numerals.{add-one}
 use native.Mathlib.Omega.{arith}
 use native.Mathlib.Nat.{add-zero}
-use lib.ListN.{length, take, drop, length-set}
+use lib.ListN.{length, set, take, drop, length-set}
 use lib.Seq.{take-all, drop-drop, getD-take, getD-drop}
 use Rattle.lists.proofs.RowParts.{take-sets}
 use Rattle.model.specs.State.{Step}
 use Rattle.layout.specs.Shape.{word}
 use Rattle.layout.specs.Words.{wellFormed}
-use Rattle.qsense.specs.Calls.{stepWords, runWords}
+use Rattle.qsense.specs.Calls.{Reply, stepWords, runWords}
+use Rattle.qsense.specs.Values.{pairReply}
+use Rattle.qsense.proofs.Checked.{unpaired}
 use Rattle.runs.specs.Runs.{stepAt, stepsIn, answersOf, stepIn, Taken}
 
 -- the steps from the i-th to the last of n
@@ -42,6 +45,17 @@ left-next n i steps h =
     let e : n - i ≡ suc (n - (i + 1)) = omega arith in
     let f : 5 * i + 5 ≡ 5 * (i + 1) = omega arith in
     rw (e, drop-drop, f, step-is)
+
+-- of a step whose answer is one number, the i-th answer by its two words
+pub taken : (b : Bool) (s : Step) (i n : ℕ) (ws rs : List ℕ) {r v : ℕ} {ws' : List ℕ} → r ≡ n % 4294967296 → v ≡ n / 4294967296
+    → (pairReply n ws' ≡ stepWords ws s) × (b ≡ wellFormed ws') → Taken b s i ws rs ws' (set (set rs (2 * i) r) (2 * i + 1) v)
+taken b s i n ws rs p q (e, w) =
+    let x = unpaired n p q e in
+    record {
+      words = ap (λ (y : Reply). y .words) x;
+      answers = λ t. set (set rs (2 * i) (x t .refusal)) (add-one (2 * i) t) (x t .value);
+      good = w;
+    }
 
 pub going-start : (b : Bool) (n : ℕ) (steps ws rs : List ℕ) → b ≡ wellFormed ws → Going b n 0 steps ws rs ws rs
 going-start b n steps ws rs e =

@@ -23,8 +23,8 @@ fn run_step(words: &mut [u32], good: bool, steps: &[u32], answers: &mut [u32], i
         NodeId(steps[at + 3]),
         steps[at + 4],
     );
-    answers[2 * i] = answer.refusal;
-    answers[2 * i + 1] = answer.value;
+    answers[2 * i] = layout::low(answer);
+    answers[2 * i + 1] = layout::high(answer);
 }
 
 // Takes a list of steps, five words each, one after another, and writes their answers, two words each: the words are checked once, and

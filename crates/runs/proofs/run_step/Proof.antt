@@ -1,11 +1,8 @@
 -- `runs::run_step` meets its contract: the step of the i-th five words, and its answer in the i-th two. Assumes nothing.
-use Prim.Native.Nat.{_*_}
-use mathlib.Core.Path.{ap}
-use native.Mathlib.Numerals.{add-one}
 use native.Mathlib.Omega.{arith}
-use lib.ListN.{set, length-set}
+use lib.ListN.{length-set}
 use borrow.Author.Needs.{needs}
-use Rattle.qsense.specs.Calls.{Reply}
+use Rattle.runs.proofs.Turns.{taken}
 use Rattle.runs.proofs.run_step.Statement.{statement}
 use Rattle.runs.proofs.run_step.Tie as tie
 
@@ -57,6 +54,9 @@ shared-slice-read-step-checked-2 c = search needs
 step-checked-requires : tie.Need-step-checked-requires
 step-checked-requires c κs = search needs
 
+low-requires : tie.Need-low-requires
+low-requires c κs = search needs
+
 mul-answers : tie.Need-mul-answers
 mul-answers c = search needs
 
@@ -65,6 +65,9 @@ mul-answers-2 c = search needs
 
 slice-write-answers : tie.Need-slice-write-answers
 slice-write-answers c = search needs
+
+high-requires : tie.Need-high-requires
+high-requires c κs = search needs
 
 mul-answers-3 : tie.Need-mul-answers-3
 mul-answers-3 c = search needs
@@ -85,14 +88,7 @@ same-length-2 : tie.Need-same-length-2
 same-length-2 c = search needs
 
 returns : tie.Need-returns
-returns c =
-    let e = c .before .before .step-checked .ensures in
-    let a = c .before .before .before .before .before .before .before .before .before .before .before .before .args in
-    record {
-      words = ap (λ (r : Reply). r .words) (e .0);
-      answers = λ t. set (set (a .answers .now) (2 * a .i) (e .0 t .refusal)) (add-one (2 * a .i) t) (e .0 t .value);
-      good = e .1;
-    }
+returns c = taken _ _ _ _ _ _ (c .before .low .ensures) (c .high .ensures) (c .before .before .before .before .step-checked .ensures)
 
 pub run-step-spec : {M : Type 1} → statement M
 run-step-spec =
@@ -114,9 +110,11 @@ run-step-spec =
     mul-step-checked-2
     shared-slice-read-step-checked-2
     step-checked-requires
+    low-requires
     mul-answers
     mul-answers-2
     slice-write-answers
+    high-requires
     mul-answers-3
     add-answers
     mul-answers-4
