@@ -1,12 +1,12 @@
 -- Words after a call, as those of a domain: what the next call asks for. Assumes nothing.
 use Prim.Native.Nat.{ℕ, _<_}
 use mathlib.Core.List.{List}
-use mathlib.Core.Path.{_≡_, refl, _∙_, ap}
+use mathlib.Core.Path.{_≡_, _∙_, ap}
 use Rattle.model.specs.WellFormed.{WellFormed}
 use Rattle.model.specs.State.{Domain}
 use Rattle.model.specs.Retire.{Effect}
 use Rattle.layout.specs.Shape.{word}
-use Rattle.layout.specs.Encode.{encode, decode, encodeBy, decodeBy}
+use Rattle.layout.specs.Encode.{encode, decode, encodeBy}
 use Rattle.layout.proofs.Sound.{decoded}
 use Rattle.domain.specs.Effects.{Does}
 
@@ -23,8 +23,3 @@ module _ {ws : List ℕ} (d : Domain) (e : ws ≡ encode d) where
   pub does-after : WellFormed d → (f : Domain → Effect) (ws' : List ℕ) (v : ℕ) → Does (f (decode ws)) ws' v → Does (f d) ws' v
   does-after w f ws' v h =
       (h .0 ∙ ap (λ (x : Domain). encode (f x .after)) (decoded e w), h .1 ∙ ap (λ (x : Domain). f x .value) (decoded e w))
-
--- the number of processes, as the domain has it
-pub processes-of : (ws : List ℕ) → word ws 0 ≡ decode ws .params .processes
-unfolding decodeBy
-processes-of ws = refl

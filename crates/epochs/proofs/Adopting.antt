@@ -14,9 +14,9 @@ use Rattle.model.proofs.WellFormed.{keep-freeing}
 use Rattle.layout.specs.Shape.{Lead, leadOf, word}
 use Rattle.layout.specs.Encode.{encode, decode}
 use Rattle.layout.specs.Sound.{Sound}
-use Rattle.layout.proofs.Sound.{decoded, sound-at}
+use Rattle.layout.proofs.Sound.{head-words, decoded, sound-at}
 use Rattle.domain.specs.Effects.{Does}
-use Rattle.domain.proofs.After.{still-below, processes-of}
+use Rattle.domain.proofs.After.{still-below}
 
 -- after the sweep
 module _ {ws : List ℕ} (s : Sound ws) (p : ℕ) (l : p < word ws 0) {ws₁ : List ℕ} {v : ℕ}
@@ -33,7 +33,7 @@ module _ {ws : List ℕ} (s : Sound ws) (p : ℕ) (l : p < word ws 0) {ws₁ : L
   sound-swept = sound-at (e .0) good
 
   pub process-swept : p < word ws₁ 0
-  process-swept = still-below (freeing (decode ws) (expired (decode ws) p) .after) (e .0) l (processes-of ws)
+  process-swept = still-below (freeing (decode ws) (expired (decode ws) p) .after) (e .0) l (head-words ws .processes)
 
   pub adopts : (x : Lead) → x ≡ leadOf (processOf (decode ws₁) p) → (g : ℕ) → g ≡ decode ws₁ .epoch → (ws₂ : List ℕ)
       → ws₂ ≡ encode (setProcess (decode ws₁) p (withWords (processOf (decode ws₁) p) g (x .calls) (x .presence)))

@@ -1,9 +1,9 @@
 -- What is noted leaves no fault exactly where there was none and it is none: one thing, a state, and four words against four limits.
 -- Assumes nothing.
 use Prim.Native.Nat.{ℕ, _+_, _≤_}
-use mathlib.Core.Bool.{Bool, true, false, not, _&&_, _||_, and-assoc}
+use mathlib.Core.Bool.{Bool, true, false, not, _&&_, _||_, and-assoc, and-comm, Bool·not-not}
 use mathlib.Core.List.{List}
-use mathlib.Core.Path.{_≡_, refl}
+use mathlib.Core.Path.{_≡_, refl, sym, ap, _∙_}
 use native.Mathlib.Nat.{add-zero}
 use native.Mathlib.Omega.{arith}
 use borrow.Author.Tests.{lt-ltb, le-ltb, ltb-true, ltb-false, leb-true, leb-false}
@@ -16,18 +16,12 @@ use Rattle.faults.specs.declared.Faults.{Faults}
 use Rattle.faults.specs.Limits.{none, turned, within}
 use Rattle.faults.proofs.Tests.{over}
 
-noted : (a b c d e s f : Bool)
-    → (not a && (not b && (not c && (not d && (not (e || f) && s)))))
-    ≡ ((not a && (not b && (not c && (not d && (not e && s))))) && not f)
-noted true b c d e s f = refl
-noted false true c d e s f = refl
-noted false false true d e s f = refl
-noted false false false true e s f = refl
-noted false false false false true s f = refl
-noted false false false false false true true = refl
-noted false false false false false true false = refl
-noted false false false false false false true = refl
-noted false false false false false false false = refl
+nor : (a b : Bool) → not (a || b) ≡ (not a && not b)
+nor true b = refl
+nor false b = refl
+
+last : (a b c : Bool) → (a && b && c) ≡ (a && c && b)
+last a b c = and-assoc a b c ∙ ap (λ (x : Bool). a && x) (and-comm b c) ∙ sym (and-assoc a c b)
 
 pub noted-none : (f : Faults) (b : Bool)
     → none
@@ -41,7 +35,7 @@ pub noted-none : (f : Faults) (b : Bool)
     })
     ≡ (none f && not b)
 unfolding none
-noted-none f b = noted (f .first) (f .second) (f .third) (f .fourth) (f .other) (ltb (f .states) 1024) b
+noted-none f b = rw (nor (f .other) b, last (not (f .other)) (not b) (ltb (f .states) 1024)) (simp and-assoc)
 
 -- ---- the states met
 
@@ -75,16 +69,7 @@ stated-none f s t e = rw (e, states-met (f .states) s) (simp and-assoc)
 
 -- one lane
 lane : (a w : Bool) → not (a || not w) ≡ (not a && w)
-lane true w = refl
-lane false true = refl
-lane false false = refl
-
-last : (a b c : Bool) → ((a && b) && c) ≡ ((a && c) && b)
-last true true true = refl
-last true true false = refl
-last true false true = refl
-last true false false = refl
-last false b c = refl
+lane a w = nor a (not w) ∙ ap (λ (x : Bool). not a && x) (Bool·not-not w)
 
 lanes : (a b c d r w x y z : Bool)
     → (not (a || not w) && (not (b || not x) && (not (c || not y) && (not (d || not z) && r))))

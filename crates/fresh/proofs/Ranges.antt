@@ -2,15 +2,11 @@
 use Prim.Native.Nat.{ℕ}
 use mathlib.Core.Bool.{true}
 use mathlib.Core.Path.{_≡_}
-use borrow.Author.Tests.{leb-true}
-use lib.Dec.{leb}
 use Rattle.lists.proofs.Bools.{both}
 use Rattle.model.specs.Params.{Params, Between, InRange, wordCount}
 use Rattle.layout.specs.Words.{between}
+use Rattle.layout.proofs.Checked.{within}
 use Rattle.fresh.specs.Ranges.{sizesInRange, inRange, lengthFor}
-
-within : (low high n : ℕ) → between low high n ≡ true → Between low high n
-within low high n e = let t = both (leb low n) _ e in (leb-true _ _ (t .0), leb-true _ _ (t .1))
 
 sizes-of : (a : Params) → inRange a ≡ true → sizesInRange (a .processes) (a .hazards) (a .nodes) ≡ true
 unfolding inRange

@@ -19,7 +19,8 @@ use Rattle.layout.specs.Codecs.{shape}
 use Rattle.layout.specs.Encode.{processWords, processAt, encode, decode, decodeBy}
 use Rattle.layout.specs.Words.{between, headFits, processFits, nodeFits, processesFit, nodesFit, wellFormed}
 use Rattle.layout.specs.Sound.{Sound}
-use Rattle.layout.proofs.Sound.{rows-small, sound-encode, process-row}
+use Rattle.layout.proofs.Room.{rows-small}
+use Rattle.layout.proofs.Sound.{sound-encode, process-row}
 use Rattle.layout.proofs.Whole.{RowFits, encode-decode}
 use Rattle.layout.proofs.Places.{nodeFrom, node-from}
 use Rattle.layout.proofs.FitsProcess.{process-facts, process-test}
@@ -27,19 +28,19 @@ use Rattle.layout.proofs.Fits.{pass, node-facts, node-test}
 
 -- ---- the head
 
-within : (low high n : ℕ) → between low high n ≡ true → Between low high n
+pub within : (low high n : ℕ) → between low high n ≡ true → Between low high n
 within low high n e = let t = both (leb low n) _ e in (leb-true _ _ (t .0), leb-true _ _ (t .1))
 
 is-within : (low high n : ℕ) → Between low high n → between low high n ≡ true
 is-within low high n b = pass (le-leb _ _ (b .0)) (le-leb _ _ (b .1))
 
-record HeadFits (ws : List ℕ) : Type 0 where
-  params : InRange (headAt ws .params)
-  clock : word ws 6 ≤ lastClock
-  path : word ws 7 ≤ 1
-  epoch : word ws 8 ≤ 2
+pub record HeadFits (ws : List ℕ) : Type 0 where
+  pub params : InRange (headAt ws .params)
+  pub clock : word ws 6 ≤ lastClock
+  pub path : word ws 7 ≤ 1
+  pub epoch : word ws 8 ≤ 2
 
-head-facts : (ws : List ℕ) → headFits ws ≡ true → HeadFits ws
+pub head-facts : (ws : List ℕ) → headFits ws ≡ true → HeadFits ws
 unfolding headFits
 head-facts ws e =
     let e₀ = both (between 1 16 (word ws 0)) _ e in

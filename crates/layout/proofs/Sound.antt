@@ -4,7 +4,6 @@ use Prim.Native.Nat.{ℕ, _+_, _*_, _-_, _<_, _≤_}
 use mathlib.Core.List.{List}
 use mathlib.Core.Path.{_≡_, refl, _∙_, ap}
 use native.Mathlib.Omega.{arith}
-use native.Mathlib.Nat.{mul-le-mul}
 use lib.ListN.{length, take, drop}
 use borrow.Rule.Slice.PartMut.{putMid}
 use Rattle.lists.specs.Rows.{rows}
@@ -15,12 +14,9 @@ use Rattle.layout.specs.Shape.{word, nodeWords}
 use Rattle.layout.specs.Codecs.{shape}
 use Rattle.layout.specs.Encode.{processWords, encode, decode, encodeBy, decodeBy}
 use Rattle.layout.specs.Sound.{Sizes, Sound}
+use Rattle.layout.proofs.Room.{rows-small}
 use Rattle.layout.proofs.Encode.{laid, encode-length, decode-encode, process-part, process-put}
 use Rattle.layout.proofs.Encode.{nodes-lent}
-
--- the words of all processes are few
-pub rows-small : (n k : ℕ) → n ≤ 16 → k ≤ 8 → n * (28 + 3 * k) ≤ 832
-rows-small n k a b = let h : 28 + 3 * k ≤ 52 = omega arith in mul-le-mul a h
 
 module _ {d : Domain} (f : WellFormed d) where
   sizes-encode : Sizes (encode d)

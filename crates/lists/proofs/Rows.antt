@@ -27,7 +27,6 @@ below i n w h = omega (arith, mul-le-mul-right w h, suc-mul i w)
 further : (i w j v : ℕ) → v ≡ w → suc i * w + j ≡ v + (i * w + j)
 further i w j v e = omega (arith, suc-mul i w)
 
--- numbers written one after the other past a front
 module _ {X : Type 0} (put : X → List ℕ) (w : ℕ) (x₀ : X) where
   others : (x : X) (xs : List X) → Wide put w x₀ (x ∷ xs) → Wide put w x₀ xs
   others x xs h i l = h (suc i) (omega arith)

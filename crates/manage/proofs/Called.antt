@@ -15,9 +15,9 @@ use Rattle.model.proofs.WellFormed.{process-fits, keep-counted, keep-path}
 use Rattle.layout.specs.Shape.{Lead, leadOf, word}
 use Rattle.layout.specs.Encode.{encode, decode, decodeBy}
 use Rattle.layout.specs.Sound.{Sound}
-use Rattle.layout.proofs.Sound.{sound-at}
+use Rattle.layout.proofs.Sound.{head-words, sound-at}
 use Rattle.domain.specs.Effects.{Does, given}
-use Rattle.domain.proofs.After.{still-below, processes-of, does-after}
+use Rattle.domain.proofs.After.{still-below, does-after}
 
 -- ---- with presence set
 
@@ -40,7 +40,7 @@ module _ {ws : List ℕ} (s : Sound ws) (p : ℕ) (v : ℕ) (e : v ≡ decode ws
       sound-fast = sound-at e₁ good
 
       pub process-fast : p < word ws 0 → p < word ws₁ 0
-      process-fast l = still-below (withPath (decode ws) 0) e₁ l (processes-of ws)
+      process-fast l = still-below (withPath (decode ws) 0) e₁ l (head-words ws .processes)
 
       pub goes-back : allPresent (decode ws) ≡ true → (ws' : List ℕ) (r : ℕ) → Does (quiescent (decode ws₁) p) ws' r
           → Does (managing (decode ws) p) ws' r
@@ -93,7 +93,7 @@ module _ {ws : List ℕ} (s : Sound ws) (p : ℕ) (l : p < word ws 0) (x : Lead)
     sound-called = sound-at (written 0 1 ws₁ e₁) good₁
 
     pub process-called : p < word ws₁ 0
-    process-called = still-below (counted (decode ws) (call p) 0 1) (written 0 1 ws₁ e₁) l (processes-of ws)
+    process-called = still-below (counted (decode ws) (call p) 0 1) (written 0 1 ws₁ e₁) l (head-words ws .processes)
 
     pub acts : (x .calls + 1) % (a .quiescenceThreshold) ≡ 0 → (ws' : List ℕ) (r : ℕ) → Does (managing (decode ws₁) p) ws' r
         → Does (manage (decode ws) (call p)) ws' r

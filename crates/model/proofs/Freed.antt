@@ -55,8 +55,9 @@ stored : (d : Domain) (c : ℕ) (n : Node) → Was (nodeOf d c) n → turnedFree
 stored d c n w =
     turned-sweep d _ (reclaims-none (setNode d c n)) (sym (length-set (d .nodes) c n)) (set-was d c n w)
 
-same : (d : Domain) → turnedFree d d ≡ 0
-same d = turned-sweep d _ (reclaims-none d) refl (λ c. omega arith)
+-- where nothing changes
+pub none-turned : (d : Domain) → turnedFree d d ≡ 0
+none-turned d = turned-sweep d _ (reclaims-none d) refl (λ c. omega arith)
 
 -- ---- A step
 
@@ -64,27 +65,27 @@ freed : (k : Kind) (d : Domain) (s : Step) → Asked k d s
     → turnedFree d (act k d s .after) ≡ cond (is k Retire || is k Manage) (act k d s .value) 0
 freed Allocate d s a = stored d (s .node) _ (omega arith)
 freed Publish d s a = stored d (s .node) _ (omega arith)
-freed Protect d s a = same d
-freed Check d s a = same d
-freed Use d s a = same d
-freed Clear d s a = same d
+freed Protect d s a = none-turned d
+freed Check d s a = none-turned d
+freed Use d s a = none-turned d
+freed Clear d s a = none-turned d
 freed Remove d s a = stored d (s .node) _ (omega arith)
 freed Retire d s a =
     turned-sweep d _ (reclaim-reclaims (marked d s) (s .process)) (sym (length-set (d .nodes) (s .node) _))
     (set-was d (s .node) _ (omega (arith, a .state _ refl)))
-freed Drain d s a = same d
-freed Flush d s a = same d
-freed Tick d s a = same d
+freed Drain d s a = none-turned d
+freed Flush d s a = none-turned d
+freed Tick d s a = none-turned d
 freed Manage d s a = turned-sweep d _ (manage-reclaims d s) refl (λ c. omega arith)
-freed ClearPresence d s a = same d
-freed Unknown d s a = same d
+freed ClearPresence d s a = none-turned d
+freed Unknown d s a = none-turned d
 
 -- of an outcome, whichever way retires and manages are told
 freed-as : (k : Kind) (reports : Bool) → reports ≡ (is k Retire || is k Manage) → (d : Domain) (s : Step)
     → turnedFree d (stepAs k d s .after) ≡ cond (eqb (stepAs k d s .refusal) 0 && reports) (stepAs k d s .value) 0
 freed-as k reports e d s =
     by-step k d s (λ o. turnedFree d (o .after) ≡ cond (eqb (o .refusal) 0 && reports) (o .value) 0)
-    (λ n z. rw (ne-eqb n 0 z) (same d)) (λ a. rw e (freed k d s a))
+    (λ n z. rw (ne-eqb n 0 z) (none-turned d)) (λ a. rw e (freed k d s a))
 
 pub freed-are-counted : FreedAreCounted
 unfolding step

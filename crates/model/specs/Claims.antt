@@ -49,11 +49,15 @@ StepWellFormed = (d : Domain) (s : Step) → WellFormed d → WellFormed (step d
 abbrev pub reachableCount : Domain → ℕ
 reachableCount d = count (λ n. eqb (n .state) Reachable) (d .nodes)
 
+-- 1 for an accepted step of kind k
+abbrev pub acceptedAs : ℕ → ℕ → ℕ → ℕ
+acceptedAs k kind refusal = cond (eqb refusal 0 && eqb kind k) 1 0
+
 -- the accepted steps of kind k in a run
 abbrev pub acceptedOf : ℕ → Domain → List Step → ℕ
 acceptedOf k d [] = 0
 acceptedOf k d (s ∷ ss) =
-    cond (eqb (step d s .refusal) 0 && eqb (s .kind) k) 1 0 + acceptedOf k (step d s .after) ss
+    acceptedAs k (s .kind) (step d s .refusal) + acceptedOf k (step d s .after) ss
 
 -- accepted publishes less accepted removes
 abbrev pub Panel : Type 0
@@ -64,8 +68,8 @@ Panel =
 abbrev pub PanelStep : Type 0
 PanelStep =
     (d : Domain) (s : Step) → WellFormed d
-    → reachableCount (step d s .after) + cond (eqb (step d s .refusal) 0 && eqb (s .kind) 7) 1 0
-    ≡ reachableCount d + cond (eqb (step d s .refusal) 0 && eqb (s .kind) 2) 1 0
+    → reachableCount (step d s .after) + acceptedAs 7 (s .kind) (step d s .refusal)
+    ≡ reachableCount d + acceptedAs 2 (s .kind) (step d s .refusal)
 
 -- the kinds whose value is nodes freed: retire and manage
 abbrev pub reportsFreed : ℕ → Bool

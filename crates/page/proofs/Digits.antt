@@ -5,17 +5,9 @@ use mathlib.Core.Path.{_≡_, refl, sym, ap, _∙_}
 use mathlib.Core.Logic.{_≢_}
 use native.Mathlib.Omega.{arith}
 use lib.ListN.{length, set, length-append}
-use lib.Seq.{sets}
+use lib.Seq.{sets, set-comm}
 use borrow.Author.Tests.{lt-ltb}
 use Rattle.page.specs.Text.{digits, digitCount, Put, numberText}
-
--- stores at two places, in either order
-set-swap : (l : List ℕ) (i j a b : ℕ) → i ≢ j → set (set l i a) j b ≡ set (set l j b) i a
-set-swap [] i j a b h = refl
-set-swap (x ∷ xs) zero zero a b h = absurd (h refl)
-set-swap (x ∷ xs) zero (suc j) a b h = refl
-set-swap (x ∷ xs) (suc i) zero a b h = refl
-set-swap (x ∷ xs) (suc i) (suc j) a b h = ap (λ (r : List ℕ). x ∷ r) (set-swap xs i j a b (λ e. h (ap suc e)))
 
 -- the last of a run may be stored first
 sets-last : (vs l : List ℕ) (i v : ℕ) → sets (set l (i + length vs) v) i vs ≡ sets l i (vs ++ (v ∷ []))
@@ -23,7 +15,7 @@ sets-last [] l i v = let e : i + 0 ≡ i = omega arith in ap (λ (k : ℕ). set 
 sets-last (x ∷ xs) l i v =
     let e : i + suc (length xs) ≡ suc i + length xs = omega arith in
     let f : i + suc (length xs) ≢ i = λ q. let z : suc (length xs) ≡ 0 = omega arith in omega arith in
-    ap (λ (r : List ℕ). sets r (suc i) xs) (set-swap l (i + suc (length xs)) i v x f)
+    ap (λ (r : List ℕ). sets r (suc i) xs) (set-comm l (i + suc (length xs)) i v x f)
     ∙ ap (λ (k : ℕ). sets (set (set l i x) k v) (suc i) xs) e
     ∙ sets-last xs (set l i x) (suc i) v
 

@@ -1,51 +1,46 @@
 -- A process within its limits is one that fits. Assumes nothing.
-use Prim.Native.Nat.{ℕ, zero, suc, _+_, _-_, _*_, _<_, _≤_}
+use Prim.Native.Nat.{ℕ, suc, _+_, _-_, _*_, _<_, _≤_, min}
 use mathlib.Core.Bool.{Bool, true, false, not, _&&_, cond, and-assoc, and-comm, Bool·not-not}
 use mathlib.Core.List.{List}
 use mathlib.Core.Path.{_≡_, refl, sym, _∙_, ap}
 use native.Mathlib.Omega.{arith}
 use native.Mathlib.Nat.{add-zero, add-assoc, mul-le-mul-right}
 use lib.ListN.{length}
-use borrow.Author.Tests.{le-leb, lt-leb, leb-true, ltb-true, ltb-false, ne-eqb}
-use lib.Dec.{leb, ltb, eqb, eqb·suc-zero}
+use borrow.Author.Tests.{le-leb, leb-true, ltb-true, ltb-false}
+use lib.Dec.{leb, ltb, eqb}
 use Rattle.lists.specs.Tests.{implies}
 use Rattle.lists.specs.Upto.{allUpto}
-use Rattle.lists.proofs.Bools.{by-cond}
+use Rattle.lists.proofs.Compares.{eqb-pair}
 use Rattle.lists.proofs.Upto.{all-ext, all-more, all-at, all-yes}
 use Rattle.lists.proofs.UptoParts.{all-join, all-past, all-threes, all-both}
 use Rattle.layout.specs.Shape.{word, processStart}
 use Rattle.layout.specs.Codecs.{shape}
 use Rattle.layout.specs.Words.{hazardFits, storeFits, processFits, processesFit}
 use Rattle.faults.specs.Limits.{turned, within, anyWord}
-use Rattle.process_check.specs.ProcessLimits.{leadLimits, hazardLimits, storeLimits, backedAt, upTo, processWithin, Ready}
+use Rattle.process_check.specs.ProcessLimits.{leadLimits, hazardLimits, storeLimits, backedIn, backedAt}
+use Rattle.process_check.specs.ProcessLimits.{processWithin, Ready}
 use Rattle.faults.proofs.Tests.{below, only-zero, turned-back}
 use Rattle.process_check.proofs.Tables.{slid, slid-past}
 
 -- what the four looks at a process leave
 pub process-none : (ws lead hazards stores : List ℕ) (k a i : ℕ) (b v w x y z : Bool) → b ≡ backedAt ws (a + 4) k → w ≡ (v && not (not b))
-    → x ≡ (w && within ws a lead 0 4) → y ≡ (x && within ws (a + 4) hazards (24 - 3 * k) 24) → i ≡ upTo 8 (word ws (a + 3))
+    → x ≡ (w && within ws a lead 0 4) → y ≡ (x && within ws (a + 4) hazards (24 - 3 * k) 24) → i ≡ min (word ws (a + 3)) 8
     → z ≡ (y && within ws (a + 4 + 3 * k) stores (24 - 3 * i) 24) → z ≡ (v && processWithin lead hazards stores k ws a)
 unfolding processWithin
 process-none ws lead hazards stores k a i b v w x y z hb hw hx hy hi hz = rw (hz, hi, hy, hx, hw, hb) (simp (Bool·not-not, and-assoc))
 
-up-to : (last n : ℕ) → n ≤ last → upTo last n ≡ n
-up-to last n h = by-cond (λ r. r ≡ n) (ltb n last) (λ _. refl) (λ q. omega (arith, ltb-false))
-
-up-to-last : (last n : ℕ) → last ≤ n → upTo last n ≡ last
-up-to-last last n h = by-cond (λ r. r ≡ last) (ltb n last) (λ q. omega (arith, ltb-true)) (λ _. refl)
-
 -- eight looks, the last one again and again, are k looks
-looks : (f : ℕ → Bool) (k : ℕ) → 1 ≤ k → k ≤ 8 → allUpto (λ h. f (upTo (k - 1) h)) 8 ≡ allUpto f k
+looks : (f : ℕ → Bool) (k : ℕ) → 1 ≤ k → k ≤ 8 → allUpto (λ h. f (min h (k - 1))) 8 ≡ allUpto f k
 looks f k some' few = go (allUpto f k) refl
   where
     g : ℕ → Bool
-    g h = f (upTo (k - 1) h)
+    g h = f (min h (k - 1))
 
     e : 8 ≡ k + (8 - k)
     e = omega arith
 
     first : allUpto g k ≡ allUpto f k
-    first = all-ext g f k (λ i h. ap f (up-to (k - 1) i (omega arith)))
+    first = all-ext g f k (λ i h. let e : min i (k - 1) ≡ i = omega arith in ap f e)
 
     split : allUpto g 8 ≡ (allUpto g k && allUpto (λ j. g (k + j)) (8 - k))
     split = ap (allUpto g) e ∙ all-join g k (8 - k)
@@ -56,43 +51,37 @@ looks f k some' few = go (allUpto f k) refl
         split
         ∙ ap (λ (x : Bool). x && allUpto (λ j. g (k + j)) (8 - k)) (first ∙ q)
         ∙ all-yes (λ j. g (k + j)) (8 - k)
-        (λ i h. ap f (up-to-last (k - 1) (k + i) (omega arith)) ∙ all-at f k (k - 1) q (omega arith))
-
--- hazard i, from place a on, is not validated with nothing assigned
-abbrev pub backedIn : List ℕ → ℕ → ℕ → Bool
-backedIn ws a i = not (eqb (word ws (a + 3 * i + 1) + word ws (a + 3 * i + 2) * 4294967296) 4294967296)
+        (λ i h. let e : min (k + i) (k - 1) ≡ k - 1 = omega arith in ap f e ∙ all-at f k (k - 1) q (omega arith))
 
 -- a turn of the loop over a process's hazards, and its end
-pub backed-more : (ws : List ℕ) (a k h i q : ℕ) (b : Bool) → b ≡ allUpto (λ j. backedIn ws a (upTo (k - 1) j)) h
-    → i ≡ upTo (k - 1) h → q ≡ word ws (a + 3 * i + 1) + word ws (a + 3 * i + 2) * 4294967296
-    → (b && not (eqb q 4294967296)) ≡ allUpto (λ j. backedIn ws a (upTo (k - 1) j)) (h + 1)
-backed-more ws a k h i q b e hi hq =
-    rw (hq, hi) (all-more (λ j. backedIn ws a (upTo (k - 1) j)) h b e)
+pub backed-more : (ws : List ℕ) (a k h i q : ℕ) (b : Bool) → b ≡ allUpto (λ j. backedIn ws (a + 3 * min j (k - 1))) h
+    → i ≡ min h (k - 1) → q ≡ word ws (a + 3 * i + 1) + word ws (a + 3 * i + 2) * 4294967296
+    → (b && not (eqb q 4294967296)) ≡ allUpto (λ j. backedIn ws (a + 3 * min j (k - 1))) (h + 1)
+backed-more ws a k h i q b e hi hq = rw (hq, hi) (all-more (λ j. backedIn ws (a + 3 * min j (k - 1))) h b e)
 
-pub backed-all : (ws : List ℕ) (a k : ℕ) (b : Bool) → 1 ≤ k → k ≤ 8 → b ≡ allUpto (λ j. backedIn ws a (upTo (k - 1) j)) 8 → b ≡ backedAt ws a k
+pub backed-all : (ws : List ℕ) (a k : ℕ) (b : Bool) → 1 ≤ k → k ≤ 8 → b ≡ allUpto (λ j. backedIn ws (a + 3 * min j (k - 1))) 8
+    → b ≡ backedAt ws a k
 unfolding backedAt
-backed-all ws a k b some' few e = e ∙ looks (backedIn ws a) k some' few
+backed-all ws a k b some' few e = e ∙ looks (λ h. backedIn ws (a + 3 * h)) k some' few
 
--- validated at most 1, and not 1 with 0 assigned
-backed-fits : (d s : ℕ) → s ≤ anyWord
-    → (leb d 1 && not (eqb (s + d * 4294967296) 4294967296)) ≡ (leb d 1 && implies (eqb d 1) (not (eqb s 0)))
-backed-fits zero s h = rw (ne-eqb (s + 0 * 4294967296) 4294967296 (λ e. omega arith))
-backed-fits (suc zero) zero h = refl
-backed-fits (suc zero) (suc s) h = rw (ne-eqb (suc s + 1 * 4294967296) 4294967296 (λ e. omega arith), eqb·suc-zero s)
-backed-fits (suc (suc d)) s h = rw (lt-leb (suc (suc d)) 1 (omega arith))
+unless : (a b : Bool) → not (a && b) ≡ implies b (not a)
+unless true true = refl
+unless true false = refl
+unless false true = refl
+unless false false = refl
+
+-- validated is not 1 with 0 assigned
+backed-fits : (d s : ℕ) → s ≤ anyWord → not (eqb (s + d * 4294967296) 4294967296) ≡ implies (eqb d 1) (not (eqb s 0))
+backed-fits d s h = rw (eqb-pair s d 0 1 refl refl (omega arith) (omega arith)) (unless (eqb s 0) (eqb d 1))
 
 module _ (ws : List ℕ) (words : (j : ℕ) → word ws j ≤ anyWord) (k m : ℕ) (hm : m ≤ anyWord) (few : k ≤ 8) where
   -- the word j of the hazards from place a on within its limit
   abbrev inHazards : ℕ → ℕ → Bool
   inHazards a j = leb (word ws (a + j)) (turned (word (hazardLimits m) (24 - 3 * k + j)))
 
-  -- hazard h is not validated with nothing assigned
-  abbrev isBacked : ℕ → ℕ → Bool
-  isBacked a h = not (eqb (word ws (a + 3 * h + 1) + word ws (a + 3 * h + 2) * 4294967296) 4294967296)
-
   hazard-fits : (a h : ℕ) → h < k
       → ((inHazards a (3 * h) && (inHazards a (3 * h + 1) && inHazards a (3 * h + 2)))
-      && isBacked a h)
+      && backedIn ws (a + 3 * h))
       ≡ hazardFits m ws (a + 3 * h)
   unfolding hazardFits
   hazard-fits a h l =
@@ -115,7 +104,7 @@ module _ (ws : List ℕ) (words : (j : ℕ) → word ws j ≤ anyWord) (k m : �
       let past = all-past (inHazards a) (3 * k) (24 - 3 * k)
       (λ i l u. rw (slid-past (turned m) (turned m) (turned 1) (turned anyWord) k few i l (omega arith), turned-back anyWord (omega arith)) (le-leb (word ws (a + i)) anyWord (words (a + i)))) in
       let f : ℕ → Bool = λ h. inHazards a (3 * h) && (inHazards a (3 * h + 1) && inHazards a (3 * h + 2)) in
-      let g : ℕ → Bool = isBacked a in
+      let g : ℕ → Bool = λ h. backedIn ws (a + 3 * h) in
       rw (ap (allUpto (inHazards a)) e ∙ past ∙ all-threes (inHazards a) k, all-both f g k)
       (all-ext (λ h. f h && g h) (λ h. hazardFits m ws (a + 3 * h)) k (hazard-fits a))
 
@@ -158,10 +147,10 @@ module _ (ws : List ℕ) (s k m clock : ℕ) (hk : k ≤ 8) (hm : m ≤ anyWord)
           )
           (simp only-zero)
 
-  stores-fit : (a : ℕ) → within ws a (storeLimits (k - 1) m clock) (24 - 3 * upTo 8 s) 24 ≡ allUpto (λ e. storeFits s k m clock ws (a + 3 * e) e) 8
+  stores-fit : (a : ℕ) → within ws a (storeLimits (k - 1) m clock) (24 - 3 * min s 8) 24 ≡ allUpto (λ e. storeFits s k m clock ws (a + 3 * e) e) 8
   unfolding within
   stores-fit a =
-      let z = up-to 8 s few in
+      let z : min s 8 ≡ s = omega arith in
       rw (z, all-threes (inBuffer a) 8)
       (all-ext
       (λ e. inBuffer a (3 * e) && (inBuffer a (3 * e + 1) && inBuffer a (3 * e + 2)))
@@ -191,7 +180,7 @@ module _ (ws : List ℕ) (words : (j : ℕ) → word ws j ≤ anyWord) (k m q cl
   rest-fits : (b : Bool) → leb (word ws (a + 3)) 8 ≡ b
       → (b
       && (within ws (a + 4) (hazardLimits m) (24 - 3 * k) 24
-      && (within ws (a + (4 + 3 * k)) (storeLimits (k - 1) m clock) (24 - 3 * upTo 8 (word ws (a + 3))) 24 && backedAt ws (a + 4) k)))
+      && (within ws (a + (4 + 3 * k)) (storeLimits (k - 1) m clock) (24 - 3 * min (word ws (a + 3)) 8) 24 && backedAt ws (a + 4) k)))
       ≡ (b
       && (allUpto (λ h. hazardFits m ws (a + 4 + 3 * h)) k
       && allUpto (λ e. storeFits (word ws (a + 3)) k m clock ws (a + (4 + 3 * k) + 3 * e) e) 8))
@@ -207,7 +196,7 @@ module _ (ws : List ℕ) (words : (j : ℕ) → word ws j ≤ anyWord) (k m q cl
   unfolding processWithin processFits
   process-fits =
       let late : Bool = within ws (a + 4) (hazardLimits m) (24 - 3 * k) 24
-      && within ws (a + 4 + 3 * k) (storeLimits (k - 1) m clock) (24 - 3 * upTo 8 (word ws (a + 3))) 24 in
+      && within ws (a + 4 + 3 * k) (storeLimits (k - 1) m clock) (24 - 3 * min (word ws (a + 3)) 8) 24 in
       rw (
         and-comm (backedAt ws (a + 4) k) (within ws a (leadLimits (q - 1)) 0 4 && late),
         lead-fits,

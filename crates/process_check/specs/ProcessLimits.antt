@@ -1,9 +1,9 @@
 -- A process that fits, as the code looks at it: each word at most a limit that goes by its place. Assumes nothing.
-use Prim.Native.Nat.{ℕ, zero, suc, _+_, _-_, _*_, _≤_}
-use mathlib.Core.Bool.{Bool, not, _&&_, cond}
+use Prim.Native.Nat.{ℕ, zero, suc, _+_, _-_, _*_, _≤_, min}
+use mathlib.Core.Bool.{Bool, not, _&&_}
 use mathlib.Core.List.{List, [], _∷_}
 use lib.ListN.{replicate}
-use lib.Dec.{ltb, eqb}
+use lib.Dec.{eqb}
 use Rattle.lists.specs.Upto.{allUpto}
 use Rattle.layout.specs.Shape.{word}
 use Rattle.layout.specs.Sound.{Sizes}
@@ -30,14 +30,13 @@ hazardLimits m = sliding (turned m) (turned m) (turned 1) (turned anyWord)
 abbrev pub storeLimits : ℕ → ℕ → ℕ → List ℕ
 storeLimits last m clock = sliding (turned last) (turned m) (turned clock) (turned 0)
 
--- in none of the k hazards from place a on is validated 1 with 0 assigned; the two words are taken as one number
-unfoldable pub backedAt : List ℕ → ℕ → ℕ → Bool
-backedAt ws a k =
-    allUpto (λ h. not (eqb (word ws (a + 3 * h + 1) + word ws (a + 3 * h + 2) * 4294967296) 4294967296)) k
+-- the hazard at place a is not validated with no node assigned; the two words are taken as one number
+abbrev pub backedIn : List ℕ → ℕ → Bool
+backedIn ws a = not (eqb (word ws (a + 1) + word ws (a + 2) * 4294967296) 4294967296)
 
--- n, or the last one where it is more
-abbrev pub upTo : ℕ → ℕ → ℕ
-upTo last n = cond (ltb n last) n last
+-- nor is any of the k hazards from place a on
+unfoldable pub backedAt : List ℕ → ℕ → ℕ → Bool
+backedAt ws a k = allUpto (λ h. backedIn ws (a + 3 * h)) k
 
 -- a process at place a, with k hazards
 unfoldable pub processWithin : List ℕ → List ℕ → List ℕ → ℕ → List ℕ → ℕ → Bool
@@ -45,7 +44,7 @@ processWithin lead hazards stores k ws a =
     backedAt ws (a + 4) k
     && (within ws a lead 0 4
     && (within ws (a + 4) hazards (24 - 3 * k) 24
-    && within ws (a + 4 + 3 * k) stores (24 - 3 * upTo 8 (word ws (a + 3))) 24))
+    && within ws (a + 4 + 3 * k) stores (24 - 3 * min (word ws (a + 3)) 8) 24))
 
 -- the numbers that the check of the processes goes by
 pub record Ready (ws : List ℕ) : Type 0 where

@@ -2,12 +2,12 @@
 use faults::Faults;
 ghost use mathlib.Core.Path.{_≡_};
 ghost use mathlib.Core.Bool.{_&&_};
-ghost use Prim.Native.Nat.{_+_, _*_, _≤_};
+ghost use Prim.Native.Nat.{_+_, _*_, _≤_, min};
 ghost use lib.ListN.{length};
 ghost use Rattle.layout.specs.Words.{processesFit};
 ghost use Rattle.faults.specs.Limits.{none};
 ghost use Rattle.process_check.specs.ProcessLimits.{leadLimits, sliding, hazardLimits, storeLimits};
-ghost use Rattle.process_check.specs.ProcessLimits.{backedAt, upTo, processWithin, Ready};
+ghost use Rattle.process_check.specs.ProcessLimits.{backedAt, processWithin, Ready};
 
 // Eight times three limits, then 24 times one.
 fn slide(a: u32, b: u32, c: u32, rest: u32) -> [u32; 48]
@@ -58,7 +58,7 @@ fn store_limits(last: u32, m: u32, clock: u32) -> [u32; 48]
 
 // n, or the last one where it is more.
 fn at_most(n: usize, last: usize) -> usize
-    ensures { λ r. ⌜ (r ≡ upTo last n) × (r ≤ last) ⌝ }
+    ensures { λ r. ⌜ (r ≡ min n last) × (r ≤ last) ⌝ }
 {
     if n < last { n } else { last }
 }

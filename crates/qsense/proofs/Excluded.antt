@@ -19,6 +19,7 @@ use Rattle.model.specs.Machine.{step, run, fresh}
 use Rattle.model.specs.Cases.{stepOf, protect, use', tick, manage}
 use Rattle.model.specs.Claims.{turnedFree, freedCount}
 use Rattle.model.proofs.Theorems.{fresh-well-formed, step-well-formed}
+use Rattle.model.proofs.Freed.{none-turned}
 use Rattle.layout.specs.Shape.{word}
 use Rattle.layout.specs.Encode.{encode, encodeBy, decode}
 use Rattle.layout.proofs.Sound.{decoded}
@@ -27,7 +28,7 @@ use Rattle.qsense.specs.Demands.{outcomeOf}
 use Rattle.qsense.specs.Impostors.{Call, Program, call, right, callsFrom, turned, freedBefore, onlySays}
 use Rattle.qsense.specs.Impostors.{FreesOnce, NoStores, least, guarded, sixth, once, twice, Excluded}
 use Rattle.qsense.proofs.Through.{step-through, run-through, run-well-formed}
-use Rattle.qsense.proofs.Theorems.{none-turned, freed-are-counted, refused-for-stores}
+use Rattle.qsense.proofs.Theorems.{freed-are-counted, refused-for-stores}
 
 -- ---- the right reply after a run, as the model gives it
 

@@ -19,16 +19,17 @@ use Rattle.model.specs.Questions.{refusalOf}
 use Rattle.model.specs.Retire.{Effect}
 use Rattle.model.specs.Machine.{Outcome, answered, act, step, run, fresh}
 use Rattle.model.specs.Reference.{initial}
-use Rattle.model.specs.Claims.{noHistory, reachableCount, turnedFree, freedCount}
+use Rattle.model.specs.Claims.{noHistory, turnedFree, freedCount}
 use Rattle.model.proofs.Theorems as Model
+use Rattle.model.proofs.Freed.{none-turned}
 use Rattle.layout.specs.Encode.{encode, decode}
 use Rattle.layout.specs.Words.{wellFormed}
 use Rattle.layout.proofs.Sound.{decoded}
-use Rattle.layout.proofs.Checked.{well-formed-sound, well-formed-encode}
+use Rattle.layout.proofs.Checked.{well-formed-sound}
 use Rattle.qsense.specs.Calls.{Reply, refusing, throughWords, stepWords, reachableWords, runWords}
 use Rattle.qsense.specs.Demands.{Demand1, Demand2, FreedAreCountedWords, RefusedForStores, Demand3Words}
 use Rattle.qsense.specs.Demands.{acceptedIn, outcomeOf, FollowsWords}
-use Rattle.qsense.proofs.Through.{run-through, run-well-formed, accepted-through}
+use Rattle.qsense.proofs.Through.{run-through, run-well-formed, counted, panel-through, accepted-through}
 use Rattle.qsense.proofs.Made.{made}
 use Rattle.qsense.proofs.Carry.{follows-words}
 use Rattle.qsense.proofs.Stores.{full, old}
@@ -60,15 +61,6 @@ demand-1 ws s = (
 
 -- ---- Demand 2
 
--- the panel call on the words of a well-formed domain
-abbrev counted : Domain → Reply
-counted d = record { refusal = 0; value = reachableCount d; words = encode d }
-
-panel-through : {d : Domain} → WellFormed d → reachableWords (encode d) ≡ counted d
-unfolding reachableWords
-panel-through {d} f =
-    rw (well-formed-encode f) (λ t. record { refusal = 0; value = reachableCount (decoded refl f t); words = encode d })
-
 -- what is promised of a run from the words w
 abbrev Counts : List Step → List ℕ → Type 0
 Counts ss w =
@@ -88,11 +80,6 @@ demand-2 ws a ss ok =
     let m = made ws a ok in subst (Counts ss) (sym (m .words)) (counts-fresh a ss (Model.fresh-well-formed a (m .range)))
 
 -- ---- freed counts, and refusals for stores
-
--- nothing turns Free where nothing changes, as in a step of no kind
-pub none-turned : (d : Domain) → turnedFree d d ≡ 0
-unfolding step
-none-turned d = Model.freed-are-counted d (record { kind = 0; process = 0; hazard = 0; node = 0; guest = 0 })
 
 pub freed-are-counted : FreedAreCountedWords
 unfolding stepWords

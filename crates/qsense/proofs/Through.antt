@@ -1,19 +1,18 @@
--- On the words of a well-formed domain a step, a run and its accepted steps are the model's. Assumes nothing.
+-- On the words of a well-formed domain a step, a run, its accepted steps and the reachable count are the model's. Assumes nothing.
 use Prim.Native.Nat.{ℕ, _+_}
-use mathlib.Core.Bool.{true, _&&_, cond}
+use mathlib.Core.Bool.{true}
 use mathlib.Core.List.{List, [], _∷_}
 use mathlib.Core.Path.{_≡_, refl, ap, _∙_}
-use lib.Dec.{eqb}
 use Rattle.model.specs.State.{Domain, Step}
 use Rattle.model.specs.WellFormed.{WellFormed}
 use Rattle.model.specs.Machine.{step, run}
-use Rattle.model.specs.Claims.{acceptedOf}
+use Rattle.model.specs.Claims.{acceptedAs, acceptedOf, reachableCount}
 use Rattle.model.proofs.Theorems.{step-well-formed}
 use Rattle.layout.specs.Encode.{encode, decode}
 use Rattle.layout.specs.Words.{wellFormed}
 use Rattle.layout.proofs.Sound.{decoded}
 use Rattle.layout.proofs.Checked.{well-formed-encode}
-use Rattle.qsense.specs.Calls.{Reply, throughWords, stepWords, runWords}
+use Rattle.qsense.specs.Calls.{Reply, throughWords, stepWords, reachableWords, runWords}
 use Rattle.qsense.specs.Demands.{acceptedIn}
 
 -- words that pass the test are stepped
@@ -37,5 +36,14 @@ run-well-formed (s ∷ ss) {d} f = run-well-formed ss (step-well-formed d s f)
 pub accepted-through : (k : ℕ) (ss : List Step) {d : Domain} → WellFormed d → acceptedIn k (encode d) ss ≡ acceptedOf k d ss
 accepted-through k [] f = refl
 accepted-through k (s ∷ ss) {d} f =
-    ap (λ (r : Reply). cond (eqb (r .refusal) 0 && eqb (s .kind) k) 1 0 + acceptedIn k (r .words) ss) (step-through f s)
-    ∙ ap (λ (n : ℕ). cond (eqb (step d s .refusal) 0 && eqb (s .kind) k) 1 0 + n) (accepted-through k ss (step-well-formed d s f))
+    ap (λ (r : Reply). acceptedAs k (s .kind) (r .refusal) + acceptedIn k (r .words) ss) (step-through f s)
+    ∙ ap (λ (n : ℕ). acceptedAs k (s .kind) (step d s .refusal) + n) (accepted-through k ss (step-well-formed d s f))
+
+-- the panel call on the words of a well-formed domain
+abbrev pub counted : Domain → Reply
+counted d = record { refusal = 0; value = reachableCount d; words = encode d }
+
+pub panel-through : {d : Domain} → WellFormed d → reachableWords (encode d) ≡ counted d
+unfolding reachableWords
+panel-through {d} f =
+    rw (well-formed-encode f) (λ t. record { refusal = 0; value = reachableCount (decoded refl f t); words = encode d })

@@ -1,12 +1,11 @@
 -- The user's demands, of the calls on words. The run starts from what `make` leaves on any slice that it accepts; each step has five
 -- arbitrary numbers and gets the words as the last one left them. Theorems: proofs/Theorems.antt. Assumes nothing.
 use Prim.Native.Nat.{ℕ, _+_, _≤_}
-use mathlib.Core.Bool.{true, false, _&&_, cond}
+use mathlib.Core.Bool.{true, false}
 use mathlib.Core.List.{List, [], _∷_}
 use mathlib.Core.Path.{_≡_}
 use mathlib.Core.Logic.{_≢_}
 use lib.ListN.{length}
-use lib.Dec.{eqb}
 use Rattle.lists.specs.Tests.{every}
 use Rattle.model.specs.Params.{Params, bufferSize}
 use Rattle.model.specs.State.{Step}
@@ -15,7 +14,8 @@ use Rattle.model.specs.Hazards.{here, young}
 use Rattle.model.specs.Questions.{refusalOf}
 use Rattle.model.specs.Machine.{Outcome}
 use Rattle.model.specs.Reference.{Reference, initial, freeEach}
-use Rattle.model.specs.Claims.{turnedFree, freedCount, Matches, Bounded, History, noHistory, recorded, led}
+use Rattle.model.specs.Claims.{acceptedAs, turnedFree, freedCount, Matches, Bounded, History, noHistory, recorded}
+use Rattle.model.specs.Claims.{led}
 use Rattle.layout.specs.Encode.{decode}
 use Rattle.layout.specs.Words.{wellFormed}
 use Rattle.qsense.specs.Calls.{Reply, refusing, makeWords, stepWords, reachableWords, runWords}
@@ -34,7 +34,7 @@ Demand1 =
 abbrev pub acceptedIn : ℕ → List ℕ → List Step → ℕ
 acceptedIn k ws [] = 0
 acceptedIn k ws (s ∷ ss) =
-    cond (eqb (stepWords ws s .refusal) 0 && eqb (s .kind) k) 1 0 + acceptedIn k (stepWords ws s .words) ss
+    acceptedAs k (s .kind) (stepWords ws s .refusal) + acceptedIn k (stepWords ws s .words) ss
 
 abbrev pub Demand2 : Type 0
 Demand2 =

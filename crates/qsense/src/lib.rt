@@ -65,7 +65,7 @@ pub fn reachable(words: &[u32]) -> Answer
 }
 
 // One step, on words of which it is known whether they are those of a well-formed domain. The answer is one number, the refusal its low
-// word and the value its high one: two fields would come back through memory, and reading them took half the time of a step.
+// word and the value its high one: two fields would come back through memory, and reading them would take a third of a step.
 pub fn step_checked(
     words: &mut [u32],
     good: bool,

@@ -12,7 +12,7 @@ use borrow.Author.Tests.{ne-eqb, eqb-true}
 use Rattle.lists.proofs.Counts.{count-most}
 use Rattle.model.specs.State.{Node, Step, Reachable}
 use Rattle.model.specs.Machine.{step}
-use Rattle.model.specs.Claims.{reachableCount}
+use Rattle.model.specs.Claims.{acceptedAs, reachableCount}
 use Rattle.model.proofs.Theorems.{step-well-formed, panel-step}
 use Rattle.layout.specs.Encode.{decode}
 use Rattle.layout.proofs.Sound.{decoded}
@@ -20,7 +20,7 @@ use Rattle.layout.proofs.Checked.{sound-well-formed}
 use Rattle.steps.specs.Stepped.{Stepped}
 use Rattle.qsense.specs.Calls.{Reply, stepWords, reachableWords}
 use Rattle.qsense.proofs.Checked as Checked
-use Rattle.replay.specs.Turn.{accepted, countAfter, Counted, Taken}
+use Rattle.replay.specs.Turn.{countAfter, Counted, Taken}
 
 -- ---- the reachable count
 
@@ -47,7 +47,7 @@ module _ (n kind refusal : ℕ) where
   pub count-raised : refusal ≡ 0 → kind ≡ 2 → n + 1 ≡ countAfter n kind refusal
   count-raised e k = rw (e, k) (omega arith)
 
-  pub count-positive : refusal ≡ 0 → kind ≡ 7 → accepted 7 kind refusal ≤ n → 1 ≤ n
+  pub count-positive : refusal ≡ 0 → kind ≡ 7 → acceptedAs 7 kind refusal ≤ n → 1 ≤ n
   count-positive e k = rw (e, k) (λ h. h)
 
   pub count-lowered : refusal ≡ 0 → kind ≡ 7 → n - 1 ≡ countAfter n kind refusal
@@ -61,11 +61,11 @@ pub panel-is : (ws : List ℕ) (n : ℕ) → Counted ws n → n ≡ reachableWor
 panel-is ws n (sound, e) = ap (λ (r : Reply). r .value) (Checked.counted ws true (sym (sound-well-formed sound)) refl n e)
 
 module _ (ws : List ℕ) (n : ℕ) (c : Counted ws n) (s : Step) (r v : ℕ) (ws' : List ℕ) (h : Stepped (step (decode ws) s) r v ws') where
-  law : reachableCount (step (decode ws) s .after) + accepted 7 (s .kind) r ≡ n + accepted 2 (s .kind) r
+  law : reachableCount (step (decode ws) s .after) + acceptedAs 7 (s .kind) r ≡ n + acceptedAs 2 (s .kind) r
   law = rw (h .refusal, c .1) (panel-step (decode ws) s (c .0 .domain))
 
   -- a remove is accepted only where a node is Reachable
-  pub lowered : accepted 7 (s .kind) r ≤ n
+  pub lowered : acceptedAs 7 (s .kind) r ≤ n
   lowered = apart (s .kind) n _ (eqb r 0) (eqb (s .kind) 7) refl law
 
   after-is : decode ws' ≡ step (decode ws) s .after

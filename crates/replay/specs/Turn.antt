@@ -1,24 +1,18 @@
 -- One step of a replay, and all of them. Assumes nothing.
 use Prim.Native.Nat.{ℕ, _+_, _*_, _-_}
-use mathlib.Core.Bool.{_&&_, cond}
 use mathlib.Core.List.{List, [], _∷_}
 use mathlib.Core.Path.{_≡_}
 use lib.Seq.{sets}
-use lib.Dec.{eqb}
 use Rattle.model.specs.State.{Step}
-use Rattle.model.specs.Claims.{reachableCount}
+use Rattle.model.specs.Claims.{acceptedAs, reachableCount}
 use Rattle.layout.specs.Encode.{decode}
 use Rattle.layout.specs.Sound.{Sound}
 use Rattle.qsense.specs.Calls.{stepWords, reachableWords, runWords}
 use Rattle.replay.specs.Transcript.{Last, linesOf, lastOf}
 
--- 1 for an accepted step of kind k
-abbrev pub accepted : ℕ → ℕ → ℕ → ℕ
-accepted k kind refusal = cond (eqb refusal 0 && eqb kind k) 1 0
-
 -- the reachable count after a step, from the count before it: a publish (2) raises it, a remove (7) lowers it
 abbrev pub countAfter : ℕ → ℕ → ℕ → ℕ
-countAfter n kind refusal = n + accepted 2 kind refusal - accepted 7 kind refusal
+countAfter n kind refusal = n + acceptedAs 2 kind refusal - acceptedAs 7 kind refusal
 
 -- n is the reachable count of the sound words ws
 abbrev pub Counted : List ℕ → ℕ → Type 0

@@ -7,12 +7,13 @@ use trace::Header;
 ghost use mathlib.Core.Path.{_≡_};
 ghost use Prim.Native.Nat.{_+_, _*_, _≤_, _<_};
 ghost use lib.ListN.{length};
+ghost use Rattle.model.specs.Claims.{acceptedAs};
 ghost use Rattle.layout.specs.Sound.{Sound};
 ghost use Rattle.trace.specs.Bytes.{stepAt, stepsFrom};
 ghost use Rattle.trace.specs.Values.{headerValue};
 ghost use Rattle.replay.specs.Transcript.{replayInto};
 ghost use Rattle.replay.specs.Values.{endValue, transcriptOf};
-ghost use Rattle.replay.specs.Turn.{accepted, countAfter, Counted, Taken, Ran};
+ghost use Rattle.replay.specs.Turn.{countAfter, Counted, Taken, Ran};
 
 const STEP_SIZE: usize = 12;
 
@@ -32,7 +33,7 @@ pub enum Replayed {
 
 // The reachable count after a step, from the one before it: one more after an accepted publish, one less after an accepted remove.
 fn counted(reachable: u32, kind: u32, refusal: u32) -> u32
-    requires { ⌜ (reachable < 4294967295) × (accepted 7 kind refusal ≤ reachable) ⌝ }
+    requires { ⌜ (reachable < 4294967295) × (acceptedAs 7 kind refusal ≤ reachable) ⌝ }
     ensures { λ r. ⌜ r ≡ countAfter reachable kind refusal ⌝ }
 {
     if refusal != 0 {

@@ -1,18 +1,16 @@
 -- A trace that is written is read back. Assumes nothing.
 use Prim.Native.Nat.{ℕ, _+_, _*_, _/_, _%_, _≤_, _<_}
-use mathlib.Core.Bool.{true, _&&_}
+use mathlib.Core.Bool.{true}
 use mathlib.Core.List.{List, [], _∷_, _++_, append-assoc}
 use mathlib.Core.Path.{_≡_, refl, ap, sym, _∙_}
 use native.Mathlib.Omega.{arith}
 use lib.ListN.{length, length-append}
-use lib.Dec.{leb}
-use borrow.Author.Tests.{le-leb, leb-true}
+use borrow.Author.Tests.{le-leb}
 use Rattle.lists.specs.Tests.{All}
-use Rattle.lists.proofs.Bools.{both}
 use Rattle.model.specs.Params.{Params}
 use Rattle.model.specs.State.{Step}
-use Rattle.layout.specs.Words.{between}
-use Rattle.fresh.specs.Ranges.{inRange, sizesInRange}
+use Rattle.fresh.specs.Ranges.{inRange}
+use Rattle.fresh.proofs.Ranges.{in-range}
 use Rattle.trace.specs.Bytes.{wordAt, markAt, paramsAt, stepIn, stepAt, stepsFrom}
 use Rattle.trace.specs.Trace.{given, Trace, traceAt, traceOf, trailerAt, countOf, distanceOf, trailerRight}
 use Rattle.trace.specs.Trace.{startOf}
@@ -112,37 +110,16 @@ params-long a = refl
 
 -- parameters in their ranges are small
 small : (a : Params) → inRange a ≡ true → Small a
-unfolding inRange sizesInRange
-small a h = by (a .processes) (a .hazards) (a .nodes) (a .visibilityBound) (a .quiescenceThreshold) (a .fallbackThreshold) h
-  where
-    least : (low high n : ℕ) → between low high n ≡ true → n ≤ high
-    least low high n e = leb-true n high (both (leb low n) (leb n high) e .1)
-
-    by : (n k m t q c : ℕ)
-        → ((between 1 16 n && (between 1 8 k && between 1 256 m)) && (between 1 1000 t && (between 1 1000 q && between 1 256 c))) ≡ true
-        → Small
-        (record {
-          processes = n;
-          hazards = k;
-          nodes = m;
-          visibilityBound = t;
-          quiescenceThreshold = q;
-          fallbackThreshold = c;
-        })
-    by n k m t q c e =
-        let x = both (between 1 16 n && (between 1 8 k && between 1 256 m)) (between 1 1000 t && (between 1 1000 q && between 1 256 c)) e in
-        let y = both (between 1 16 n) (between 1 8 k && between 1 256 m) (x .0) in
-        let z = both (between 1 8 k) (between 1 256 m) (y .1) in
-        let u = both (between 1 1000 t) (between 1 1000 q && between 1 256 c) (x .1) in
-        let v = both (between 1 1000 q) (between 1 256 c) (u .1) in
-        record {
-          processes = omega (arith, least 1 16 n (y .0));
-          hazards = omega (arith, least 1 8 k (z .0));
-          nodes = omega (arith, least 1 256 m (z .1));
-          visibilityBound = omega (arith, least 1 1000 t (u .0));
-          quiescenceThreshold = omega (arith, least 1 1000 q (v .0));
-          fallbackThreshold = omega (arith, least 1 256 c (v .1));
-        }
+small a h =
+    let r = in-range a h in
+    record {
+      processes = omega (arith, r .processes);
+      hazards = omega (arith, r .hazards);
+      nodes = omega (arith, r .nodes);
+      visibilityBound = omega (arith, r .visibilityBound);
+      quiescenceThreshold = omega (arith, r .quiescenceThreshold);
+      fallbackThreshold = omega (arith, r .fallbackThreshold);
+    }
 
 -- ---- all of it
 

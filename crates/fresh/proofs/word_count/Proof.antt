@@ -2,7 +2,7 @@
 use Prim.Native.Nat.{_+_, _*_, _≤_}
 use native.Mathlib.Omega.{arith}
 use borrow.Author.Needs.{needs}
-use Rattle.layout.proofs.Sound.{rows-small}
+use Rattle.layout.proofs.Room.{rows-small}
 use Rattle.fresh.proofs.Ranges.{SizesInRange, sizes-in-range}
 use Rattle.fresh.proofs.word_count.Statement.{statement}
 use Rattle.fresh.proofs.word_count.Tie as tie

@@ -1,17 +1,17 @@
 -- `process_check::backed` meets its contract. The invariant: what the first h looks say. The measure: the looks that are left. Assumes nothing.
-use Prim.Native.Nat.{_≤_, _-_}
+use Prim.Native.Nat.{_+_, _*_, _-_, _≤_, min}
 use mathlib.Core.Path.{_≡_}
 use native.Mathlib.Omega.{arith}
 use borrow.Author.Needs.{needs}
 use Rattle.lists.specs.Upto.{allUpto}
 use Rattle.lists.proofs.Upto.{all-none}
-use Rattle.process_check.specs.ProcessLimits.{upTo}
-use Rattle.process_check.proofs.Processes.{backedIn, backed-more, backed-all}
+use Rattle.process_check.specs.ProcessLimits.{backedIn}
+use Rattle.process_check.proofs.Processes.{backed-more, backed-all}
 use Rattle.process_check.proofs.backed.Statement.{statement}
 use Rattle.process_check.proofs.backed.Tie as tie
 
 abbrev Inv-loop : tie.InvT-loop
-Inv-loop words at k ok₀ h₀ ok h = (h ≤ 8) × (ok ≡ allUpto (λ j. backedIn words at (upTo (k - 1) j)) h)
+Inv-loop words at k ok₀ h₀ ok h = (h ≤ 8) × (ok ≡ allUpto (λ j. backedIn words (at + 3 * min j (k - 1))) h)
 
 abbrev μ-loop : tie.MeasureT-loop
 μ-loop words at k ok₀ h₀ ok h = 8 - h

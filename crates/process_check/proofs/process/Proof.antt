@@ -1,7 +1,6 @@
 -- `process_check::process` meets its contract: four looks at its words, each of which adds its faults. Assumes nothing.
-use Prim.Native.Nat.{ℕ}
+use Prim.Native.Nat.{ℕ, min}
 use mathlib.Core.Path.{_∙_, ap}
-use Rattle.process_check.specs.ProcessLimits.{upTo}
 use Rattle.faults.specs.Limits.{none}
 use Rattle.process_check.proofs.Processes.{process-none}
 use native.Mathlib.Omega.{arith}
@@ -73,7 +72,7 @@ returns c =
     (c .before .before .before .before .before .before .noted .ensures)
     (c .before .before .before .before .before .pieces .ensures)
     (c .before .before .before .before .pieces2 .ensures)
-    (c .before .at-most .ensures .0 ∙ ap (λ (n : ℕ). upTo 8 n) (c .before .before .wide .ensures .0))
+    (c .before .at-most .ensures .0 ∙ ap (λ (n : ℕ). min n 8) (c .before .before .wide .ensures .0))
     (c .pieces3 .ensures)
 
 pub process-spec : {M : Type 1} → statement M

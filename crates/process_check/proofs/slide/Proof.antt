@@ -1,6 +1,6 @@
 -- `process_check::slide` meets its contract. The invariant: the first i times three places are laid out. The measure: the turns that are
 -- left. Assumes nothing.
-use Prim.Native.Nat.{_+_, _-_, _*_, _≤_}
+use Prim.Native.Nat.{_-_, _*_, _≤_}
 use mathlib.Core.Path.{_≡_, refl, _∙_, ap}
 use native.Mathlib.Omega.{arith}
 use lib.ListN.{replicate}

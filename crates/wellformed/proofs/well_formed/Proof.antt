@@ -7,7 +7,8 @@ use lib.ListN.{length}
 use Rattle.layout.specs.Codecs.{shape}
 use Rattle.layout.specs.Shape.{word, nodesStart}
 use Rattle.layout.specs.Words.{headFits}
-use Rattle.wellformed.proofs.Head.{in-head, ready, too-short, bad-head, bad-length, all-fits}
+use Rattle.layout.proofs.Checked.{head-facts}
+use Rattle.wellformed.proofs.Head.{ready, too-short, bad-head, bad-length, all-fits}
 use native.Mathlib.Omega.{arith}
 use borrow.Author.Needs.{needs}
 use Rattle.wellformed.proofs.well_formed.Statement.{statement}
@@ -37,7 +38,7 @@ shared-slice-read-process-start-2 : tie.Need-shared-slice-read-process-start-2
 shared-slice-read-process-start-2 c = search needs
 
 process-start-requires : tie.Need-process-start-requires
-process-start-requires c κs = let u = in-head _ (head (c .before .before)) in (u .hazards .1, u .processes .1)
+process-start-requires c κs = let r = head-facts _ (head (c .before .before)) .params in (r .hazards .1, r .processes .1)
 
 shared-slice-read-wide : tie.Need-shared-slice-read-wide
 shared-slice-read-wide c = search needs
