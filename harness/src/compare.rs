@@ -36,8 +36,7 @@ impl<'a> Lockstep<'a> {
 
     /// From any domain.
     pub fn from(calls: &'a Calls, rules: Rules, domain: Domain) -> Lockstep<'a> {
-        let mut expected = Vec::new();
-        words::encode(&domain, &mut expected);
+        let expected = words::words_of(&domain);
         Lockstep { calls, model: Model { rules, domain }, lent: Lent::new(&expected), expected, reference: None }
     }
 

@@ -35,6 +35,9 @@ pub struct Step {
 }
 
 impl Step {
+    /// A step of no kind.
+    pub const UNKNOWN: Step = Step { kind: 0, process: 0, hazard: 0, node: 0, guest: 0 };
+
     pub fn new(kind: Kind, process: u32, hazard: u32, node: u32, guest: u32) -> Step {
         Step { kind: kind as u32, process, hazard, node, guest }
     }

@@ -31,6 +31,13 @@ pub fn encode(domain: &Domain, words: &mut Vec<u32>) {
     }
 }
 
+/// The domain's words.
+pub fn words_of(domain: &Domain) -> Vec<u32> {
+    let mut words = Vec::new();
+    encode(domain, &mut words);
+    words
+}
+
 fn stored(node: Option<u32>) -> u32 {
     node.map_or(0, |id| id + 1)
 }

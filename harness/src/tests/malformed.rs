@@ -7,7 +7,7 @@ use crate::coverage::Coverage;
 use crate::library::{Calls, Lent};
 use crate::model::domain::Domain;
 use crate::model::mistake::Rules;
-use crate::model::words::encode;
+use crate::model::words::words_of;
 use crate::params::{Params, LIMITS};
 use crate::random::Random;
 use crate::step::{Answer, Kind, Step};
@@ -42,8 +42,7 @@ pub fn broken_in_turn(
     coverage: &mut Coverage,
     counts: &mut [u32; CONDITIONS.len()],
 ) -> Result<(), String> {
-    let mut good = Vec::new();
-    encode(domain, &mut good);
+    let good = words_of(domain);
     for broken in every_word(domain) {
         let mut words = good.clone();
         words[broken.index] = broken.value;
@@ -88,8 +87,7 @@ pub fn some_words(
     for index in 0..cases {
         let mut random = Random::new(seed ^ 0x5011, index);
         let params = Params::random(&mut random);
-        let mut words = Vec::new();
-        encode(&arbitrary::domain(&mut random, params), &mut words);
+        let mut words = words_of(&arbitrary::domain(&mut random, params));
         for _ in 0..1 + random.below(3) {
             let place = random.below(words.len() as u32) as usize;
             words[place] = *random.of(&[0, 1, 2, 3, 4, 5, 8, params.nodes, params.processes, u32::MAX]);
@@ -108,8 +106,7 @@ pub fn lengths(calls: &Calls, rules: Rules, seed: u64, coverage: &mut Coverage) 
     for index in 0..200 {
         let mut random = Random::new(seed ^ 0x1e47, index);
         let params = Params::random(&mut random);
-        let mut words = Vec::new();
-        encode(&arbitrary::domain(&mut random, params), &mut words);
+        let mut words = words_of(&arbitrary::domain(&mut random, params));
         let count = words.len();
         words.extend([0; 5]);
         let shorter = [0, 1, 5, 6, 7, 8, 9, 10, 44, count / 2, count - 5, count - 2, count - 1];

@@ -5,7 +5,7 @@ use crate::compare::same;
 use crate::library::{Calls, Lent};
 use crate::model::domain::Domain;
 use crate::model::mistake::Rules;
-use crate::model::words::encode;
+use crate::model::words::words_of;
 use crate::model::{run_words, Model};
 use crate::params::Params;
 use crate::random::Random;
@@ -32,8 +32,7 @@ pub fn one_by_one(calls: &Calls, seed: u64, cases: u64) -> Result<String, String
 fn start(random: &mut Random) -> (Vec<u32>, Vec<Step>) {
     let params = Params::random(random);
     let domain = if random.chance(50) { Domain::fresh(params) } else { arbitrary::domain(random, params) };
-    let mut words = Vec::new();
-    encode(&domain, &mut words);
+    let words = words_of(&domain);
     let mut model = Model { rules: Rules::default(), domain };
     let (mood, length) = (Mood::random(random), *random.of(&[0, 1, 2, 10, 300]));
     let schedule = (0..length).map(|_| {

@@ -3,7 +3,7 @@
 use crate::rows::{run, shape};
 use harness::model::domain::Domain;
 use harness::model::mistake::Rules;
-use harness::model::words::encode;
+use harness::model::words::words_of;
 use harness::model::Model;
 use harness::params::Params;
 use harness::step::{Kind, Step};
@@ -47,8 +47,7 @@ pub fn all(params: Params) {
         for (_, step) in cycle.before.iter().map(step) {
             assert_eq!(model.step(step).refusal, 0, "{}", cycle.name);
         }
-        let mut start = Vec::new();
-        encode(&model.domain, &mut start);
+        let start = words_of(&model.domain);
         let schedule: Vec<_> = cycle.again.iter().map(step).cycle().take(STEPS).collect();
         assert!(schedule.iter().all(|&(_, step)| model.step(step).refusal == 0), "{}", cycle.name);
         run(&format!("{}, run: {}", shape(params), cycle.name), &start, &schedule);

@@ -6,7 +6,7 @@ use crate::rows::shape;
 use crate::table::{line, Row};
 use harness::library::{PLAIN, QSENSE};
 use harness::model::domain::{Domain, Node, Path};
-use harness::model::words::encode;
+use harness::model::words::words_of;
 use harness::params::Params;
 use harness::random::Random;
 use harness::step::{Kind, Step};
@@ -38,10 +38,9 @@ pub fn all(params: Params) {
     println!("the library's slowest of these retires takes {:.2} of its fastest", most / least);
 }
 
-/// From each start, a retire by each caller, then a step of no kind, which is answered right after the check: all in turns.
+/// From each start, a retire by each caller, then an unknown step, which is answered right after the check: all in turns.
 fn times<C: Caller>(rounds: u32, callers: &[&C], starts: &[Vec<Vec<u32>>]) -> Vec<f64> {
-    let none = Step { kind: 0, process: 0, hazard: 0, node: 0, guest: 0 };
-    let schedules = [Step::new(Kind::Retire, 0, 0, 0, 0), none]
+    let schedules = [Step::new(Kind::Retire, 0, 0, 0, 0), Step::UNKNOWN]
         .map(|step| (0..DOMAINS).map(|domain| (domain, step)).collect::<Vec<_>>());
     let mut contenders = Vec::new();
     for start in starts {
@@ -73,7 +72,5 @@ fn scanning(params: Params, due: usize, seed: u64) -> Vec<u32> {
             left -= 1;
         }
     }
-    let mut words = Vec::new();
-    encode(&domain, &mut words);
-    words
+    words_of(&domain)
 }

@@ -6,7 +6,7 @@ use crate::table::{line, Row};
 use harness::arbitrary;
 use harness::library::{PLAIN, QSENSE, TRUSTING};
 use harness::model::mistake::Rules;
-use harness::model::words::encode;
+use harness::model::words::words_of;
 use harness::model::Model;
 use harness::params::Params;
 use harness::random::Random;
@@ -27,7 +27,7 @@ impl Plan {
     fn new(params: Params, domains: usize) -> Plan {
         let mut random = Random::new(1, domains as u64);
         let mut models: Vec<Model> = (0..domains).map(|_| running(&mut random, params)).collect();
-        let start = models.iter().map(words).collect();
+        let start = models.iter().map(|model| words_of(&model.domain)).collect();
         let mood = Mood::steady();
         let schedule = (0..STEPS).map(|turn| {
             let model = &mut models[turn % domains];
@@ -38,10 +38,9 @@ impl Plan {
         Plan { schedule: schedule.collect(), start }
     }
 
-    /// Steps of a kind that there is not, which are answered right after the check.
+    /// Unknown steps, which are answered right after the check.
     fn unknown(&self) -> Vec<(usize, Step)> {
-        let none = Step { kind: 0, process: 0, hazard: 0, node: 0, guest: 0 };
-        (0..STEPS).map(|turn| (turn % self.start.len(), none)).collect()
+        (0..STEPS).map(|turn| (turn % self.start.len(), Step::UNKNOWN)).collect()
     }
 }
 
@@ -53,12 +52,6 @@ fn running(random: &mut Random, params: Params) -> Model {
             return Model { rules: Rules::default(), domain };
         }
     }
-}
-
-fn words(model: &Model) -> Vec<u32> {
-    let mut words = Vec::new();
-    encode(&model.domain, &mut words);
-    words
 }
 
 pub fn all(params: Params) {
