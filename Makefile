@@ -3,18 +3,24 @@
 .PHONY: test run bench soak
 SECONDS ?= 60
 
+# written only after `desk` was proved, linked and printed what it is to print: the program itself is there before that is tried
+proved := target/proved-by-make/desk
+
 test:
 	@tools/gate
 
-run: target/bin/desk
+run: $(proved)
 	@target/bin/desk < examples/first.book
 
-bench: target/bin/desk
+bench: $(proved)
 	@tools/bench
 
 soak:
 	@tools/soak $(SECONDS)
 
-target/bin/desk: crates.txt $(shell find crates -name '*.rt' -o -name '*.antt')
+sources := $(shell find crates -name '*.rt' -o -name '*.antt') $(wildcard crates/desk/stdin crates/desk/stdout)
+
+$(proved): crates.txt $(sources)
 	@rt check desk >&2
+	@mkdir -p $(@D)
 	@touch $@

@@ -1,11 +1,12 @@
 /* Furtaqyl for C and C++: memory reclamation by QSense on words that the caller lends.
  *
- * A domain has n processes (1 to 16), k hazards a process (1 to 8) and m nodes (1 to 256), each counted from 0, and lives in
- * qsense_length(n, k, m) words of the caller's. All that the library knows is in these words; it keeps no memory of its own. Every call
- * takes any words, any lengths and any numbers: what does not fit is refused, and a refused call changes no word.
+ * A domain has N processes, K hazards a process and M nodes, each counted from 0, and lives in qsense_length(N, K, M) words of the
+ * caller's. All that the library knows is in these words; it keeps no memory of its own. Every call takes any words, any lengths and any
+ * numbers: what does not fit is refused, and a refused call changes no word.
  *
- * A pointer with a length above 0 must be to that many words, aligned and alive during the call, and written by nobody else
- * meanwhile; slices lent to one call may not overlap. */
+ * Words lent to a call, steps and answers too, are the caller's alone during it: as many as the length says, aligned, alive, and neither
+ * written nor read by anybody else meanwhile (const ones may be read); slices lent to one call may not overlap. A pointer may be NULL
+ * only where its length is 0. */
 #ifndef QSENSE_H
 #define QSENSE_H
 
@@ -23,16 +24,25 @@ typedef struct {
     uint32_t value;
 } qsense_answer;
 
+/* The parameters of a domain, which its first words hold in this order. */
+typedef struct {
+    uint32_t processes;  /* N, 1 to 16 */
+    uint32_t hazards;    /* K, of each process, 1 to 8 */
+    uint32_t nodes;      /* M, 1 to 256 */
+    uint32_t visibility; /* T, 1 to 1000: within so many ticks a store is visible */
+    uint32_t quiescence; /* Q, 1 to 1000: every Q-th manage of a process acts */
+    uint32_t fallback;   /* C, 1 to 256: a process with so many Retired nodes leaves the fast path */
+} qsense_params;
+
 /* How many words a domain takes: 9 + n * (28 + 3 * k) + 5 * m, from 45 to 2121. 0 unless n, k and m are each in range.
  * It reads and changes no words and is never refused. */
 uint32_t qsense_length(uint32_t n, uint32_t k, uint32_t m);
 
-/* Makes a fresh domain in words, whatever they held: its six parameters first, 0 in every other word. t is the visibility bound in
- * ticks (1 to 1000), q the quiescence threshold in calls of manage (1 to 1000), c the fallback threshold in nodes (1 to 256).
- * The value is 0. Refused, with no word changed:
+/* Makes a fresh domain in words, whatever they held: its parameters first, 0 in every other word. The value is 0. Refused, with no word
+ * changed:
  *   1  a parameter is out of range
- *   2  len is not qsense_length(n, k, m) */
-qsense_answer qsense_make(uint32_t *words, size_t len, uint32_t n, uint32_t k, uint32_t m, uint32_t t, uint32_t q, uint32_t c);
+ *   2  len is not the qsense_length of these parameters */
+qsense_answer qsense_make(uint32_t *words, size_t len, qsense_params params);
 
 /* Takes one step. Only the fields named with a kind are read.
  *    1  allocate (process, node, guest)    Free to Allocated, with this owner and guest
@@ -46,14 +56,14 @@ qsense_answer qsense_make(uint32_t *words, size_t len, uint32_t n, uint32_t k, u
  *    9  drain (process)                    commits the oldest pending store
  *   10  flush (process)                    commits all pending stores
  *   11  tick                               the clock moves on
- *   12  manage (process)                   every q-th call is a quiescent state; value: nodes freed
- *   13  clear presence                     no process counts as present
+ *   12  manage (process)                   every Q-th call is a quiescent state; value: nodes freed
+ *   13  clear presence                     no process has checked in: all presence words 0
  * The value is 0 where none is named. Refused at the first no, in this order, with value 0 and no word changed:
  *    3  the words are a well-formed domain
  *    4  the kind is 1 to 13
- *    5  the process is below n (all but 11 and 13)
- *    6  the hazard is below k (3 to 6)
- *    7  the node is below m (1, 2, 3, 7, 8)
+ *    5  the process is below N (all but 11 and 13)
+ *    6  the hazard is below K (3 to 6)
+ *    7  the node is below M (1, 2, 3, 7, 8)
  *    8  the node is Free (1), Allocated (2), Reachable (7), Removed (8)
  *    9  the process owns it (2, 8)
  *   10  the hazard has a node assigned (4)
@@ -62,7 +72,7 @@ qsense_answer qsense_make(uint32_t *words, size_t len, uint32_t n, uint32_t k, u
  *   13  the process has fewer than 8 pending stores (3, 6)
  *   14  it has one (9)
  *   15  the clock is below 4294967295 (11)
- *   16  every pending store of every process is younger than t ticks (11)
+ *   16  every pending store of every process is younger than T ticks (11)
  *   17  no hazard of the process has a node assigned (12) */
 qsense_answer qsense_step(uint32_t *words, size_t len, uint32_t kind, uint32_t process, uint32_t hazard, uint32_t node,
                           uint32_t guest);

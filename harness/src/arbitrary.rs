@@ -1,6 +1,7 @@
 //! Well-formed domains that no run need reach: every field has any value that the paper's shape allows.
 
-use crate::model::domain::{Domain, Hazard, Node, Path, Process, Store, BUFFER};
+use crate::layout::BUFFER;
+use crate::model::domain::{Domain, Hazard, Node, Path, Process, Store};
 use crate::params::Params;
 use crate::random::Random;
 
@@ -33,12 +34,12 @@ impl Shape<'_> {
     fn process(&mut self) -> Process {
         let pending = *self.random.of(&[0, 0, 1, 2, 5, BUFFER - 1, BUFFER]);
         let idle = self.random.chance(30);
+        let lead = Process::lead_limits(self.params).map(|most| self.random.up_to(most));
         Process {
-            epoch: self.random.below(3),
-            calls: self.random.below(self.params.quiescence_threshold),
-            present: self.random.chance(70),
+            presence: self.random.chance(70),
             hazards: (0..self.params.hazards).map(|_| self.hazard(idle)).collect(),
             buffer: (0..pending).map(|_| self.store()).collect(),
+            ..Process::of_lead(self.params, lead)
         }
     }
 

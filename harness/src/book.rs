@@ -1,5 +1,6 @@
 //! Step books and their print, by the paper: bytes from steps, steps from bytes, and what the model answers.
 
+use crate::layout::{word_count, CLOCK, PATH};
 use crate::library::Calls;
 use crate::model::mistake::Rules;
 use crate::model::Model;
@@ -9,9 +10,18 @@ use std::fmt::Write;
 
 pub const MARK: &[u8; 4] = b"QBAK";
 pub const GREATEST: usize = 65_536;
+/// The bytes of the parameters, of a step, of the trailer.
+pub const PARAMS: usize = 4 * Params::COUNT;
+pub const STEP: usize = 12;
+pub const TRAILER: usize = 12;
 
 /// How many steps fit in a book.
-pub const MOST_STEPS: usize = (GREATEST - 36) / 12;
+pub const MOST_STEPS: usize = (GREATEST - distance(0)) / STEP;
+
+/// From the end of a book of so many steps back to its parameters.
+pub const fn distance(count: usize) -> usize {
+    PARAMS + STEP * count + TRAILER
+}
 
 /// A book of these steps, whose kind, process and hazard fit a byte; `unread` goes to the byte that nobody reads.
 pub fn write(params: Params, steps: &[Step], unread: u8) -> Vec<u8> {
@@ -21,8 +31,7 @@ pub fn write(params: Params, steps: &[Step], unread: u8) -> Vec<u8> {
         bytes.extend(step.node.to_le_bytes());
         bytes.extend(step.guest.to_le_bytes());
     }
-    let count = steps.len() as u32;
-    bytes.extend(trailer(count, 36 + 12 * count));
+    bytes.extend(trailer(steps.len() as u32, distance(steps.len()) as u32));
     bytes
 }
 
@@ -35,17 +44,17 @@ fn read(bytes: &[u8]) -> Result<(Params, Vec<Step>), u32> {
     if bytes.len() > GREATEST {
         return Err(18);
     }
-    let trailer = bytes.len().checked_sub(12).ok_or(19u32)?;
-    let (count, distance) = (word(bytes, trailer) as u64, word(bytes, trailer + 4) as u64);
-    if bytes[trailer + 8..] != MARK[..] || distance != 36 + 12 * count || distance > bytes.len() as u64 {
+    let trailer = bytes.len().checked_sub(TRAILER).ok_or(19u32)?;
+    let (count, back) = (word(bytes, trailer) as usize, word(bytes, trailer + 4) as usize);
+    if bytes[trailer + 8..] != MARK[..] || back != distance(count) || back > bytes.len() {
         return Err(19);
     }
-    let start = bytes.len() - distance as usize;
+    let start = bytes.len() - back;
     let params = Params::from_numbers(std::array::from_fn(|place| word(bytes, start + 4 * place)));
     if !params.in_range() {
         return Err(1);
     }
-    let steps = (0..count as usize).map(|number| step(&bytes[start + 24 + 12 * number..]));
+    let steps = (0..count).map(|number| step(&bytes[start + PARAMS + STEP * number..]));
     Ok((params, steps.collect()))
 }
 
@@ -87,7 +96,7 @@ impl Desk for Words<'_> {
     }
 
     fn end(&self) -> [u32; 3] {
-        [self.words[6], self.words[7], self.calls.reachable(&self.words).value]
+        [self.words[CLOCK], self.words[PATH], self.calls.reachable(&self.words).value]
     }
 }
 
@@ -99,7 +108,7 @@ pub fn print(bytes: &[u8]) -> String {
 /// The same by the library's calls.
 pub fn print_by_calls(calls: &Calls, bytes: &[u8]) -> String {
     print_by(bytes, |params| {
-        let mut words = vec![0; params.word_count()];
+        let mut words = vec![0; word_count(params)];
         calls.make(&mut words, params);
         Words { calls, words }
     })

@@ -1,7 +1,8 @@
 //! Every way to make good words malformed by one word: pushed out of its range, or against a condition between words.
 
-use crate::model::domain::{Domain, Node, BUFFER};
-use crate::params::LIMITS;
+use crate::layout::{BUFFER, LEAD_CALLS, STORE};
+use crate::model::domain::{Domain, Node, Process};
+use crate::params::Params;
 
 pub struct Broken {
     pub index: usize,
@@ -31,11 +32,10 @@ pub fn every_word(domain: &Domain) -> Vec<Broken> {
     let mut walk = Walk { index: 0, broken: Vec::new() };
     walk.head(domain);
     for process in &domain.processes {
-        walk.at_most(2, "in range");
-        walk.at_most(domain.params.quiescence_threshold - 1, "calls below Q");
-        walk.at_most(1, "in range");
-        // another length within the range is left to random words: it may be well formed
-        walk.at_most(BUFFER as u32, "in range");
+        // another number of stores within the range is left to random words: it may be well formed
+        for (place, limit) in Process::lead_limits(domain.params).into_iter().enumerate() {
+            walk.at_most(limit, if place == LEAD_CALLS { "calls below Q" } else { "in range" });
+        }
         for hazard in &process.hazards {
             walk.at_most(domain.params.nodes, "in range");
             if hazard.validated {
@@ -52,7 +52,7 @@ pub fn every_word(domain: &Domain) -> Vec<Broken> {
             walk.at_most(domain.params.nodes, "in range");
             walk.at_most(domain.clock, "time of a store at most the clock");
         }
-        for _ in 0..3 * (BUFFER - process.buffer.len()) {
+        for _ in 0..STORE * (BUFFER - process.buffer.len()) {
             walk.at_most(0, "stores past the length are 0");
         }
     }
@@ -89,13 +89,16 @@ impl Walk {
     }
 
     fn head(&mut self, domain: &Domain) {
-        for (place, (number, limit)) in domain.params.numbers().into_iter().zip(LIMITS).enumerate() {
-            if place < 3 {
-                for other in [number - 1, number + 1] {
+        let Params { processes, hazards, nodes, .. } = domain.params;
+        let sizes = [processes, hazards, nodes];
+        let limits = Params::LEAST.numbers().into_iter().zip(Params::MOST.numbers());
+        for (place, (least, most)) in limits.enumerate() {
+            if let Some(size) = sizes.get(place) {
+                for other in [size - 1, size + 1] {
                     self.push(other, "length by the parameters");
                 }
             }
-            self.between(1, limit, "in range");
+            self.between(least, most, "in range");
         }
         self.index += 1; // the clock, which may be anything
         self.at_most(1, "in range");

@@ -1,6 +1,7 @@
 //! The library beside the model: every answer and every word, on a run or on any words.
 
 use crate::coverage::Coverage;
+use crate::layout::{node_start, process_start, process_width, word_count, HEAD, NODE};
 use crate::library::{Calls, Lent};
 use crate::model::domain::Domain;
 use crate::model::mistake::Rules;
@@ -21,7 +22,7 @@ pub struct Lockstep<'a> {
 impl<'a> Lockstep<'a> {
     /// From a domain that the library makes over `rubbish` words.
     pub fn fresh(calls: &'a Calls, rules: Rules, params: Params, rubbish: u32) -> Result<Lockstep<'a>, String> {
-        let mut lent = Lent::new(&vec![rubbish; params.word_count()]);
+        let mut lent = Lent::new(&vec![rubbish; word_count(params)]);
         let answer = calls.make(lent.words_mut(), params);
         let mut run = Lockstep {
             calls,
@@ -92,11 +93,10 @@ fn place(words: &[u32], index: usize) -> String {
     let Some(params) = words::decode(words, Rules::default()).map(|domain| domain.params) else {
         return format!("word {index}");
     };
-    let width = 28 + 3 * params.hazards as usize;
-    let nodes = 9 + params.processes as usize * width;
+    let row = |what: &str, width, from| format!("word {} of {what} {}", (index - from) % width, (index - from) / width);
     match index {
-        0..9 => format!("word {index} of the head"),
-        _ if index < nodes => format!("word {} of process {}", (index - 9) % width, (index - 9) / width),
-        _ => format!("word {} of node {}", (index - nodes) % 5, (index - nodes) / 5),
+        0..HEAD => format!("word {index} of the head"),
+        _ if index < node_start(params, 0) => row("process", process_width(params), process_start(params, 0)),
+        _ => row("node", NODE, node_start(params, 0)),
     }
 }

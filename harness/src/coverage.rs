@@ -1,13 +1,15 @@
 //! What a run of tests has met: without these counts, agreement would say little.
 
-use crate::model::domain::{Domain, Node, Path, BUFFER};
-use crate::step::{Answer, Kind, Step};
+use crate::layout::BUFFER;
+use crate::model::domain::{Domain, Node, Path};
+use crate::model::questions::{LAST_QUESTION, QUESTIONS};
+use crate::step::{Answer, Field, Kind, Step};
 
 #[derive(Default)]
 pub struct Coverage {
     pub steps: u64,
-    accepted: [u64; 14],
-    refused: [u64; 18],
+    accepted: [u64; Kind::LAST + 1],
+    refused: [u64; LAST_QUESTION + 1],
     to_fallback: u64,
     to_fast: u64,
     freed_by_scan: u64,
@@ -65,7 +67,8 @@ impl Coverage {
     /// Every count with its name.
     pub fn counts(&self) -> Vec<(String, u64)> {
         let kinds = Kind::ALL.iter().map(|&kind| (format!("accepted {kind:?}"), self.accepted[kind as usize]));
-        let numbers = (3..=17).map(|number| (format!("refused {number}"), self.refused[number]));
+        let numbers = [3, 4].into_iter().chain(QUESTIONS.iter().map(|question| question.number as usize));
+        let numbers = numbers.map(|number| (format!("refused {number}"), self.refused[number]));
         let others = [
             ("switched to fallback", self.to_fallback),
             ("switched to fast", self.to_fast),
@@ -86,11 +89,8 @@ impl Coverage {
     }
 }
 
-fn has_unread(kind: Kind, step: Step) -> bool {
-    (!kind.reads_process() && step.process != 0)
-        || (!kind.reads_hazard() && step.hazard != 0)
-        || (!kind.reads_node() && step.node != 0)
-        || (!kind.reads_guest() && step.guest != 0)
+fn has_unread(kind: Kind, mut step: Step) -> bool {
+    Field::ALL.into_iter().any(|field| !kind.reads(field) && *step.field_mut(field) != 0)
 }
 
 /// Whether a node of the owner is old enough for a scan and still there, because a hazard with it is visible.

@@ -5,6 +5,7 @@ pub mod book;
 pub mod broken;
 pub mod compare;
 pub mod coverage;
+pub mod layout;
 pub mod library;
 pub mod model;
 pub mod params;

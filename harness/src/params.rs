@@ -1,67 +1,86 @@
-//! The six parameters of a domain, their ranges, and the number of words that they ask for.
+//! The parameters of a domain, their ranges, and random ones.
 
 use crate::random::Random;
 use std::fmt::{Display, Formatter, Result};
 
-/// Each parameter's greatest value, in the paper's order N, K, M, T, Q, C; the least is 1.
-pub const LIMITS: [u32; 6] = [16, 8, 256, 1000, 1000, 256];
+// A line a parameter, in the paper's order: its name, its least and its greatest value, and the greatest of a small domain, where paths
+// switch and nodes are freed within a few steps, and of a middling one.
+macro_rules! parameters {
+    ($($(#[$doc:meta])* $name:ident: $least:literal to $most:literal, small $small:literal, middling $middling:literal;)*) => {
+        /// As in include/qsense.h.
+        #[repr(C)]
+        #[derive(Clone, Copy, Debug, PartialEq)]
+        pub struct Params {
+            $($(#[$doc])* pub $name: u32,)*
+        }
 
-#[derive(Clone, Copy, Debug, PartialEq)]
-pub struct Params {
-    pub processes: u32,
-    /// hazards of one process
-    pub hazards: u32,
-    pub nodes: u32,
-    pub visibility_bound: u32,
-    pub quiescence_threshold: u32,
-    pub fallback_threshold: u32,
+        impl Params {
+            pub const COUNT: usize = [$(stringify!($name),)*].len();
+            pub const LEAST: Params = Params { $($name: $least,)* };
+            pub const MOST: Params = Params { $($name: $most,)* };
+            const SMALL: Params = Params { $($name: $small,)* };
+            const MIDDLING: Params = Params { $($name: $middling,)* };
+
+            pub fn from_numbers([$($name,)*]: [u32; Params::COUNT]) -> Params {
+                Params { $($name,)* }
+            }
+
+            pub fn numbers(self) -> [u32; Params::COUNT] {
+                [$(self.$name,)*]
+            }
+        }
+    };
+}
+
+parameters! {
+    /// N
+    processes: 1 to 16, small 3, middling 6;
+    /// K, of one process
+    hazards: 1 to 8, small 2, middling 4;
+    /// M
+    nodes: 1 to 256, small 6, middling 40;
+    /// T, in ticks
+    visibility_bound: 1 to 1000, small 4, middling 10;
+    /// Q, in calls of manage
+    quiescence_threshold: 1 to 1000, small 2, middling 4;
+    /// C, in nodes
+    fallback_threshold: 1 to 256, small 4, middling 20;
 }
 
 impl Params {
-    pub fn from_numbers(
-        [processes, hazards, nodes, visibility_bound, quiescence_threshold, fallback_threshold]: [u32; 6],
-    ) -> Params {
-        Params { processes, hazards, nodes, visibility_bound, quiescence_threshold, fallback_threshold }
-    }
-
-    pub fn numbers(self) -> [u32; 6] {
-        [
-            self.processes,
-            self.hazards,
-            self.nodes,
-            self.visibility_bound,
-            self.quiescence_threshold,
-            self.fallback_threshold,
-        ]
+    /// N, K, M, T, Q, C and so on; those that are not given are at their least.
+    pub fn of(first: &[u32]) -> Params {
+        let mut numbers = Params::LEAST.numbers();
+        numbers[..first.len()].copy_from_slice(first);
+        Params::from_numbers(numbers)
     }
 
     pub fn in_range(self) -> bool {
-        self.numbers().iter().zip(LIMITS).all(|(&x, limit)| (1..=limit).contains(&x))
+        let limits = Params::LEAST.numbers().into_iter().zip(Params::MOST.numbers());
+        self.numbers().iter().zip(limits).all(|(&x, (least, most))| (least..=most).contains(&x))
     }
 
-    /// How many words a domain takes; for parameters in range.
-    pub fn word_count(self) -> usize {
-        (9 + self.processes * (28 + 3 * self.hazards) + 5 * self.nodes) as usize
-    }
-
-    /// Mostly small parameters, where paths switch and nodes are freed within a few steps; now and then any.
+    /// Mostly small parameters; now and then any.
     pub fn random(random: &mut Random) -> Params {
         let limits = match random.below(20) {
-            0..=11 => [3, 2, 6, 4, 2, 4],
-            12..=16 => [6, 4, 40, 10, 4, 20],
-            _ => LIMITS,
+            0..=11 => Params::SMALL,
+            12..=16 => Params::MIDDLING,
+            _ => Params::MOST,
         };
         match random.below(40) {
-            0 => Params::from_numbers(LIMITS),
-            1 => Params::from_numbers([1; 6]),
-            _ => Params::from_numbers(limits.map(|limit| 1 + random.below(limit))),
+            0 => Params::MOST,
+            1 => Params::LEAST,
+            _ => {
+                let (least, most) = (Params::LEAST.numbers(), limits.numbers());
+                Params::from_numbers(std::array::from_fn(|i| least[i] + random.up_to(most[i] - least[i])))
+            }
         }
     }
 }
 
 impl Display for Params {
     fn fmt(&self, f: &mut Formatter) -> Result {
-        let [n, k, m, t, q, c] = self.numbers();
-        write!(f, "{n} {k} {m} {t} {q} {c}")
+        let numbers: Vec<String> = self.numbers().iter().map(u32::to_string).collect();
+        write!(f, "{}", numbers.join(" "))
     }
 }

@@ -1,6 +1,7 @@
 //! The plain desk of demand 3, which has no store buffers, times, limbo lists or paths, and the bound on unfreed nodes.
 //! It is led by the five numbers of a step, whether it was accepted and the count of freed nodes, and agrees with the words after each.
 
+use crate::layout::{hazard_start, node_start};
 use crate::params::Params;
 use crate::step::{Answer, Step};
 
@@ -154,7 +155,7 @@ impl Reference {
     /// Frees, one after another, the nodes that are Free in the words and Retired here, which must be `count`.
     fn free(&mut self, count: u32, words: &[u32]) -> Result<(), String> {
         let freed: Vec<usize> = (0..self.cells.len())
-            .filter(|&id| self.cells[id].state == RETIRED && words[self.node_at(id)] == FREE)
+            .filter(|&id| self.cells[id].state == RETIRED && words[node_start(self.params, id)] == FREE)
             .collect();
         if freed.len() != count as usize {
             return Err(format!("{count} freed, but {} turned Free", freed.len()));
@@ -168,24 +169,16 @@ impl Reference {
         Ok(())
     }
 
-    fn width(&self) -> usize {
-        28 + 3 * self.params.hazards as usize
-    }
-
-    fn node_at(&self, id: usize) -> usize {
-        9 + self.params.processes as usize * self.width() + 5 * id
-    }
-
     fn agrees(&self, words: &[u32]) -> Result<(), String> {
         for (id, cell) in self.cells.iter().enumerate() {
-            let at = self.node_at(id);
+            let at = node_start(self.params, id);
             if [cell.state, cell.owner, cell.guest] != words[at..at + 3] {
                 return Err(format!("node {id} is {cell:?}, and {:?} in the words", &words[at..at + 3]));
             }
         }
         for (process, pointers) in self.pointers.iter().enumerate() {
             for (hazard, pointer) in pointers.iter().enumerate() {
-                let at = 9 + process * self.width() + 4 + 3 * hazard + 1;
+                let at = hazard_start(self.params, process, hazard) + 1;
                 if [pointer.assigned, pointer.validated] != words[at..at + 2] {
                     let found = &words[at..at + 2];
                     return Err(format!(

@@ -3,21 +3,23 @@
 use crate::model::domain::{Domain, Hazard, Node, Process};
 use crate::model::Model;
 use crate::random::Random;
-use crate::step::{Kind, Step};
+use crate::step::{Field, Kind, State, Step};
 
 /// How a schedule is drawn. Moods differ, so that what is rare in one run is frequent in another.
 pub struct Mood {
-    weights: [u32; 13],
+    weights: [u32; Kind::ALL.len()],
     accepted_percent: u32,
     unread_percent: u32,
 }
 
-/// Weights in the order of the kinds by which nodes go round and hazards are claimed.
-const WEIGHTS: [u32; 13] = [8, 8, 8, 12, 4, 4, 6, 8, 3, 2, 6, 8, 1];
+/// The weights of the table, by which nodes go round and hazards are claimed.
+fn weights() -> [u32; Kind::ALL.len()] {
+    std::array::from_fn(|place| Kind::ALL[place].row().weight)
+}
 
 impl Mood {
     pub fn random(random: &mut Random) -> Mood {
-        let mut weights = WEIGHTS.map(|weight| weight * random.of(&[1, 2, 4, 8]));
+        let mut weights = weights().map(|weight| weight * random.of(&[1, 2, 4, 8]));
         if random.chance(30) {
             // claims that stay, and stores that stay pending
             for kind in [Kind::Clear, Kind::Drain, Kind::Flush] {
@@ -32,7 +34,7 @@ impl Mood {
 
     /// A mood in which nearly all steps are accepted, and fields that are not read are 0.
     pub fn steady() -> Mood {
-        Mood { weights: WEIGHTS, accepted_percent: 100, unread_percent: 0 }
+        Mood { weights: weights(), accepted_percent: 100, unread_percent: 0 }
     }
 
     /// The next step for the model's domain.
@@ -56,7 +58,7 @@ impl Mood {
 
     fn kind(&self, random: &mut Random) -> Kind {
         let mut left = random.below(self.weights.iter().sum());
-        for (kind, &weight) in Kind::ALL.into_iter().zip(&self.weights) {
+        for (kind, &weight) in Kind::ALL.iter().copied().zip(&self.weights) {
             if left < weight {
                 return kind;
             }
@@ -68,31 +70,32 @@ impl Mood {
 
 /// A step of this kind with fields that the domain is likely to accept.
 fn likely(random: &mut Random, domain: &Domain, kind: Kind) -> Step {
-    let params = domain.params;
+    let (params, row) = (domain.params, kind.row());
     let mut step = Step::new(kind, random.below(params.processes), 0, 0, 0);
+    if kind.reads(Field::Hazard) {
+        step.hazard = random.below(params.hazards);
+    }
+    if kind.reads(Field::Node) {
+        step.node = random.below(params.nodes);
+    }
+    if kind.reads(Field::Guest) {
+        step.guest = if random.chance(10) { random.word() } else { random.below(100) };
+    }
+    if let Some(state) = row.needs {
+        step.node = node_where(random, domain, |node| node.state() == state);
+    }
+    if row.owns && random.chance(97) {
+        step.process = domain.node(step.node).owner().unwrap_or(step.process);
+    }
     match kind {
-        Kind::Allocate => {
-            step.node = node_where(random, domain, |node| *node == Node::Free);
-            step.guest = if random.chance(10) { random.word() } else { random.below(100) };
-        }
-        Kind::Publish => step.node = node_where(random, domain, |node| matches!(node, Node::Allocated { .. })),
-        Kind::Remove => step.node = node_where(random, domain, |node| matches!(node, Node::Reachable { .. })),
-        Kind::Retire => step.node = node_where(random, domain, |node| matches!(node, Node::Removed { .. })),
-        Kind::Protect => {
-            step.hazard = random.below(params.hazards);
-            step.node = match random.chance(85) {
-                true => node_where(random, domain, |node| matches!(node, Node::Reachable { .. })),
-                false => random.below(params.nodes),
-            };
+        Kind::Protect if random.chance(85) => {
+            step.node = node_where(random, domain, |node| node.state() == State::Reachable);
         }
         Kind::Check | Kind::Clear => at_hazard(random, domain, &mut step, |hazard| hazard.assigned.is_some()),
         Kind::Use => at_hazard(random, domain, &mut step, |hazard| hazard.validated),
         Kind::Drain => step.process = process_where(random, domain, |process| !process.buffer.is_empty()),
         Kind::Manage => step.process = process_where(random, domain, |process| !process.has_assigned()),
-        Kind::Flush | Kind::Tick | Kind::ClearPresence => {}
-    }
-    if matches!(kind, Kind::Publish | Kind::Retire) && random.chance(97) {
-        step.process = domain.node(step.node).owner().unwrap_or(step.process);
+        _ => {}
     }
     step
 }
@@ -127,7 +130,8 @@ fn anything(random: &mut Random, model: &Model, kind: Kind) -> Step {
     let (process, hazard, node) = (field(params.processes), field(params.hazards), field(params.nodes));
     let mut step = Step::new(kind, process, hazard, node, random.word());
     if random.chance(8) {
-        step.kind = *random.of(&[0, 14, 19, 255, 256 + kind as u32, u32::MAX]);
+        let next = Kind::LAST as u32 + 1;
+        step.kind = *random.of(&[0, next, next + 5, 255, 256 + kind as u32, u32::MAX]);
     }
     step
 }
@@ -135,15 +139,9 @@ fn anything(random: &mut Random, model: &Model, kind: Kind) -> Step {
 /// Puts anything into the fields that the step's kind does not read.
 fn fill_unread(random: &mut Random, step: &mut Step) {
     let kind = Kind::from_number(step.kind);
-    let reads = |test: fn(Kind) -> bool| kind.is_some_and(test);
-    for (field, read) in [
-        (&mut step.process, reads(Kind::reads_process)),
-        (&mut step.hazard, reads(Kind::reads_hazard)),
-        (&mut step.node, reads(Kind::reads_node)),
-        (&mut step.guest, reads(Kind::reads_guest)),
-    ] {
-        if !read {
-            *field = random.word();
+    for field in Field::ALL {
+        if !kind.is_some_and(|kind| kind.reads(field)) {
+            *step.field_mut(field) = random.word();
         }
     }
 }

@@ -1,5 +1,6 @@
-//! A step as five numbers, its kind, and an answer as two.
+//! A step as five numbers, its kind with the table of kinds, and an answer as two.
 
+use crate::layout::STEP;
 use std::fmt::{Display, Formatter, Result};
 
 #[repr(C)]
@@ -25,6 +26,19 @@ impl Display for Answer {
     }
 }
 
+/// What a kind may read of a step.
+#[derive(Clone, Copy, PartialEq)]
+pub enum Field {
+    Process,
+    Hazard,
+    Node,
+    Guest,
+}
+
+impl Field {
+    pub const ALL: [Field; 4] = [Field::Process, Field::Hazard, Field::Node, Field::Guest];
+}
+
 #[derive(Clone, Copy, PartialEq)]
 pub struct Step {
     pub kind: u32,
@@ -42,12 +56,21 @@ impl Step {
         Step { kind: kind as u32, process, hazard, node, guest }
     }
 
-    pub fn from_numbers([kind, process, hazard, node, guest]: [u32; 5]) -> Step {
+    pub fn from_numbers([kind, process, hazard, node, guest]: [u32; STEP]) -> Step {
         Step { kind, process, hazard, node, guest }
     }
 
-    pub fn numbers(self) -> [u32; 5] {
+    pub fn numbers(self) -> [u32; STEP] {
         [self.kind, self.process, self.hazard, self.node, self.guest]
+    }
+
+    pub fn field_mut(&mut self, field: Field) -> &mut u32 {
+        match field {
+            Field::Process => &mut self.process,
+            Field::Hazard => &mut self.hazard,
+            Field::Node => &mut self.node,
+            Field::Guest => &mut self.guest,
+        }
     }
 }
 
@@ -58,48 +81,89 @@ impl Display for Step {
     }
 }
 
+/// The states of a node, in the order of their numbers.
 #[derive(Clone, Copy, Debug, PartialEq)]
-pub enum Kind {
-    Allocate = 1,
-    Publish,
-    Protect,
-    Check,
-    Use,
-    Clear,
-    Remove,
-    Retire,
-    Drain,
-    /// the paper's rooster
-    Flush,
-    Tick,
-    Manage,
-    /// the paper's roll call
-    ClearPresence,
+pub enum State {
+    Free,
+    Allocated,
+    Reachable,
+    Removed,
+    Retired,
 }
 
-use Kind::*;
+use State::*;
+
+/// What a kind reads, the state of its node that it needs, whether the process must own that node, and how often a random schedule has
+/// the kind.
+pub struct Row {
+    reads: &'static [Field],
+    pub needs: Option<State>,
+    pub owns: bool,
+    pub weight: u32,
+}
+
+/// The parts of a row that only some kinds have.
+const fn row(reads: &'static [Field], weight: u32) -> Row {
+    Row { reads, needs: None, owns: false, weight }
+}
+
+impl Row {
+    const fn needs(self, state: State) -> Row {
+        Row { needs: Some(state), ..self }
+    }
+
+    const fn owns(self) -> Row {
+        Row { owns: true, ..self }
+    }
+}
+
+macro_rules! kinds {
+    ($($(#[$doc:meta])* $number:literal $name:ident [$($field:ident)*] $weight:literal $($part:ident ($($state:ident)?))*;)*) => {
+        #[derive(Clone, Copy, Debug, PartialEq)]
+        pub enum Kind {
+            $($(#[$doc])* $name = $number,)*
+        }
+
+        impl Kind {
+            pub const ALL: &'static [Kind] = &[$(Kind::$name,)*];
+
+            pub fn row(self) -> &'static Row {
+                match self {
+                    $(Kind::$name => const { &row(&[$(Field::$field,)*], $weight)$(.$part($($state)?))* },)*
+                }
+            }
+        }
+    };
+}
+
+// The table: a kind's number and name, what it reads, its weight, and what it needs of its node.
+kinds! {
+    1 Allocate [Process Node Guest] 8 needs(Free);
+    2 Publish [Process Node] 8 needs(Allocated) owns();
+    3 Protect [Process Hazard Node] 8;
+    4 Check [Process Hazard] 12;
+    5 Use [Process Hazard] 4;
+    6 Clear [Process Hazard] 4;
+    7 Remove [Process Node] 6 needs(Reachable);
+    8 Retire [Process Node] 8 needs(Removed) owns();
+    9 Drain [Process] 3;
+    /// the paper's rooster
+    10 Flush [Process] 2;
+    11 Tick [] 6;
+    12 Manage [Process] 8;
+    /// the paper's roll call
+    13 ClearPresence [] 1;
+}
 
 impl Kind {
-    pub const ALL: [Kind; 13] =
-        [Allocate, Publish, Protect, Check, Use, Clear, Remove, Retire, Drain, Flush, Tick, Manage, ClearPresence];
+    /// The greatest number of a kind.
+    pub const LAST: usize = Kind::ALL[Kind::ALL.len() - 1] as usize;
 
     pub fn from_number(number: u32) -> Option<Kind> {
-        Kind::ALL.into_iter().find(|&kind| kind as u32 == number)
+        Kind::ALL.iter().copied().find(|&kind| kind as u32 == number)
     }
 
-    pub fn reads_process(self) -> bool {
-        !matches!(self, Tick | ClearPresence)
-    }
-
-    pub fn reads_hazard(self) -> bool {
-        matches!(self, Protect | Check | Use | Clear)
-    }
-
-    pub fn reads_node(self) -> bool {
-        matches!(self, Allocate | Publish | Protect | Remove | Retire)
-    }
-
-    pub fn reads_guest(self) -> bool {
-        self == Allocate
+    pub fn reads(self, field: Field) -> bool {
+        self.row().reads.contains(&field)
     }
 }

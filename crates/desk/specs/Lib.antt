@@ -1,2 +1,3 @@
 -- What the contracts of `desk` cite.
-pub mod Lines
+pub mod Sizes
+pub mod Written

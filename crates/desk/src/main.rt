@@ -1,103 +1,77 @@
-// The program `desk`: reads a step book (a trace) from standard input, replays it, and prints the paper's lines: the parameters, a line a
-// step, and the last line; or `refused` and the number. All output goes through one page.
+// The program `desk`: reads a step book (a trace) from standard input and writes its print once: the paper's lines, or `refused` and the
+// number. What it writes is `print::print_book` of what was read; the reading and the writing are the system's.
 use input::Input;
 use libc::STDERR_FILENO;
 use libc::STDIN_FILENO;
 use libc::STDOUT_FILENO;
-use replay::End;
-use replay::Replayed;
-use trace::Header;
-use trace::Opened;
-ghost use Rattle.trace.specs.Values.{headerValue};
-ghost use Rattle.desk.specs.Lines.{ReplayedIn};
-
-// Prints a text, and answers whether it was written, as all that print here do.
-fn print_text(text: &[u8]) -> bool {
-    io::write_all(STDOUT_FILENO, text)
-}
+use print::rooms;
+use trace::widths::most;
+ghost use Prim.Native.Nat.{_≤_};
+ghost use lib.ListN.{length, take};
+ghost use Rattle.print.specs.Printed.{printRoom, Prints};
+ghost use Rattle.desk.specs.Sizes.{mostRead, shortBook};
+ghost use Rattle.desk.specs.Written.{IsPrint};
 
 fn complain(text: &[u8]) {
     let _done = io::write_all(STDERR_FILENO, text);
 }
 
-// Replays a book on the first words and lines of two buffers, as many as it takes; where there is no room nothing is done.
-fn replay_book(words: &mut [u32], lines: &mut [u32], bytes: &[u8], header: Header) -> Replayed
-    ensures { λ r. ⌜ ReplayedIn (headerValue header) (now (bytes .entry)) (now (words .entry)) (now (lines .entry)) r (now (words .exit)) (now (lines .exit)) ⌝ }
+// The print of the first n bytes.
+fn print_start(book: &[u8], n: usize, out: &mut [u8]) -> usize
+    requires { ⌜ (n ≤ length (now book)) × (printRoom n ≤ length (now out)) ⌝ }
+    ensures { λ r. ⌜ Prints (take n (now (book .entry))) (now (out .exit)) r × (r ≤ printRoom n) ⌝ }
 {
-    let params = header.params;
-    let long = layout::wide(qsense::length(params.processes, params.hazards, params.nodes));
-    let many = 3 * layout::wide(header.count);
-    if words.len() < long {
-        return Replayed::NoRoom;
-    }
-    if lines.len() < many {
-        return Replayed::NoRoom;
-    }
-    replay::replay(&mut words[0..long], bytes, header, &mut lines[0..many])
+    print::print_book(&book[0..n], out)
 }
 
-// Prints the steps of a replay, which stand in the bytes from the first on.
-fn print_steps(bytes: &[u8], header: Header, lines: &[u32], end: End) -> bool {
-    let first = header.first;
-    let count = header.count;
-    if bytes.len() < first {
-        return false;
-    }
-    if lines.len() < 3 * layout::wide(count) {
-        return false;
-    }
-    print::print_lines(
-        header.params,
-        &bytes[first..],
-        count,
-        lines,
-        end.clock,
-        end.path,
-        end.reachable,
-    )
+// Writes a print, the first n bytes, and answers whether it was written.
+fn write_print(out: &[u8], n: usize) -> bool
+    requires { ⌜ IsPrint (now out) n ⌝ }
+{
+    io::write_all(STDOUT_FILENO, &out[0..n])
 }
 
-// Prints a book that was found.
-fn print_found(bytes: &[u8], header: Header) -> bool {
-    let mut words = [0u32; 2121];
-    let mut lines = [0u32; 16384];
-    match replay_book(&mut words, &mut lines, bytes, header) {
-        Replayed::Done(end) => print_steps(bytes, header, &lines, end),
-        Replayed::NoRoom => false,
+// Prints a short book, the first n bytes; a write that fails is told.
+fn print_short(book: &[u8], n: usize)
+    requires { ⌜ (n ≤ length (now book)) × (n ≤ shortBook) ⌝ }
+{
+    let mut space = [0u8; rooms::SHORT_PRINT];
+    let out: &mut [u8] = &mut space;
+    let size = print_start(book, n, out);
+    if !write_print(out, size) {
+        complain(b"desk: cannot write standard output\n");
     }
 }
 
-// Prints a book, or the number that refuses it.
-fn print_book(bytes: &[u8]) -> bool {
-    match trace::open_trace(bytes) {
-        Opened::Found(header) => print_found(bytes, header),
-        Opened::TooLong => print_text(b"refused 18\n"),
-        Opened::NoTrailer => print_text(b"refused 19\n"),
-        Opened::OutOfRange => print_text(b"refused 1\n"),
+// The same of a book of any length.
+fn print_long(book: &[u8], n: usize)
+    requires { ⌜ (n ≤ length (now book)) × (n ≤ mostRead) ⌝ }
+{
+    let mut space = [0u8; rooms::PRINT];
+    let out: &mut [u8] = &mut space;
+    let size = print_start(book, n, out);
+    if !write_print(out, size) {
+        complain(b"desk: cannot write standard output\n");
     }
 }
 
-// Prints the first n bytes as a book.
-fn print_start(book: &[u8], n: usize) -> bool {
-    if book.len() < n {
-        return false;
+// Prints the first n bytes. A short book does without the long buffer: the pages of a frame are touched as it is entered, and print_long,
+// which is called twice and writes by itself, is not made a part of main.
+fn print_input(book: &[u8], n: usize)
+    requires { ⌜ (n ≤ length (now book)) × (n ≤ mostRead) ⌝ }
+{
+    if n <= rooms::SHORT_BOOK {
+        print_short(book, n);
+    } else {
+        print_long(book, n);
     }
-    print_book(&book[0..n])
-}
-
-// The same of the whole buffer, whose length is known.
-fn print_input(book: &[u8; 65537], n: usize) -> bool {
-    print_start(book, n)
 }
 
 fn main() {
-    let mut book = [0u8; 65537];
+    let mut book = [0u8; most::READ];
     match input::read_all(STDIN_FILENO, &mut book) {
-        Input::Bytes(n) => {
-            if !print_input(&book, n) {
-                complain(b"desk: cannot write standard output\n");
-            }
-        }
+        Input::Whole(n) => print_input(&book, n),
+        Input::Full(n) => print_long(&book, n),
         Input::Failed => complain(b"desk: cannot read standard input\n"),
     }
 }

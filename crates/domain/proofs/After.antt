@@ -5,18 +5,17 @@ use mathlib.Core.Path.{_≡_, _∙_, ap}
 use Rattle.model.specs.WellFormed.{WellFormed}
 use Rattle.model.specs.State.{Domain}
 use Rattle.model.specs.Retire.{Effect}
-use Rattle.layout.specs.Shape.{word}
-use Rattle.layout.specs.Encode.{encode, decode, encodeBy}
+use Rattle.layout.specs.Encode.{encode, decode, encodeBy, paramsIn}
 use Rattle.layout.proofs.Sound.{decoded}
 use Rattle.domain.specs.Effects.{Does}
 
 module _ {ws : List ℕ} (d : Domain) (e : ws ≡ encode d) where
-  pub process-count : word ws 0 ≡ d .params .processes
+  pub process-count : paramsIn ws .processes ≡ d .params .processes
   unfolding encodeBy
-  process-count = ap (λ (r : List ℕ). word r 0) e
+  process-count = ap (λ (r : List ℕ). paramsIn r .processes) e
 
   -- a process of the words before is one of those after
-  pub still-below : {p n : ℕ} → p < n → n ≡ d .params .processes → p < word ws 0
+  pub still-below : {p n : ℕ} → p < n → n ≡ d .params .processes → p < paramsIn ws .processes
   still-below h q = rw (process-count, ← q) h
 
   -- what a call does to them, it does to the domain

@@ -1,36 +1,44 @@
-// The head and the nodes of a domain's words: every call speaks of the domain that the words hold, and no caller knows an address.
+// A domain's words: the head and the nodes here, the processes in the modules. Every call speaks of the domain that the words hold, and no
+// caller knows an address.
+pub mod process;
+pub mod processes;
+pub mod stores;
+
 use layout::Node;
 use layout::NodeId;
 use layout::Params;
 use layout::ProcessId;
+use layout::words::head_word;
+use layout::words::most;
 ghost use mathlib.Core.Path.{_≡_};
-ghost use Prim.Native.Nat.{_+_, _*_, _<_};
+ghost use Prim.Native.Nat.{_+_, _-_, _<_, _≤_};
 ghost use lib.ListN.{length};
 ghost use Rattle.lists.specs.Tests.{count};
+ghost use Rattle.model.specs.Params.{delay};
 ghost use Rattle.model.specs.State.{nodeOf, setNode, withClock, withPath, withEpoch};
 ghost use Rattle.model.specs.Retire.{retiredBy, freeing};
 ghost use Rattle.model.specs.Epochs.{expired};
 ghost use Rattle.model.specs.Claims.{reachableCount};
-ghost use Rattle.layout.specs.Shape.{word};
-ghost use Rattle.layout.specs.Encode.{encode, decode};
+ghost use Rattle.layout.specs.Shape.{nodesStart};
+ghost use Rattle.layout.specs.Encode.{shape, decode, paramsIn};
 ghost use Rattle.layout.specs.Sound.{Sound};
 ghost use Rattle.layout.specs.Values.{paramsValue, nodeValue};
-ghost use Rattle.domain.specs.Effects.{Does, unmarked};
+ghost use Rattle.domain.specs.Effects.{Does, changed, unmarked};
 
 // ---- the head
 
-// The six parameters.
+// The parameters.
 pub fn bounds(words: &[u32]) -> Params
     requires { ⌜ Sound (now words) ⌝ }
     ensures { λ r. ⌜ paramsValue r ≡ decode (now (words .entry)) .params ⌝ }
 {
     Params {
-        processes: words[0],
-        hazards: words[1],
-        nodes: words[2],
-        visibility: words[3],
-        quiescence: words[4],
-        fallback: words[5],
+        processes: words[head_word::PROCESSES],
+        hazards: words[head_word::HAZARDS],
+        nodes: words[head_word::NODES],
+        visibility: words[head_word::VISIBILITY],
+        quiescence: words[head_word::QUIESCENCE],
+        fallback: words[head_word::FALLBACK],
     }
 }
 
@@ -38,14 +46,14 @@ pub fn clock(words: &[u32]) -> u32
     requires { ⌜ Sound (now words) ⌝ }
     ensures { λ r. ⌜ r ≡ decode (now (words .entry)) .clock ⌝ }
 {
-    words[6]
+    words[head_word::CLOCK]
 }
 
 pub fn path(words: &[u32]) -> u32
     requires { ⌜ Sound (now words) ⌝ }
     ensures { λ r. ⌜ r ≡ decode (now (words .entry)) .path ⌝ }
 {
-    words[7]
+    words[head_word::PATH]
 }
 
 // The global epoch.
@@ -53,28 +61,43 @@ pub fn epoch(words: &[u32]) -> u32
     requires { ⌜ Sound (now words) ⌝ }
     ensures { λ r. ⌜ r ≡ decode (now (words .entry)) .epoch ⌝ }
 {
-    words[8]
+    words[head_word::EPOCH]
 }
 
 pub fn set_clock(words: &mut [u32], v: u32)
     requires { ⌜ Sound (now words) ⌝ }
-    ensures { λ _. ⌜ now (words .exit) ≡ encode (withClock (decode (now (words .entry))) v) ⌝ }
+    ensures { λ _. ⌜ now (words .exit) ≡ changed (λ d. withClock d v) (now (words .entry)) ⌝ }
 {
-    words[6] = v;
+    words[head_word::CLOCK] = v;
 }
 
 pub fn set_path(words: &mut [u32], v: u32)
     requires { ⌜ Sound (now words) ⌝ }
-    ensures { λ _. ⌜ now (words .exit) ≡ encode (withPath (decode (now (words .entry))) v) ⌝ }
+    ensures { λ _. ⌜ now (words .exit) ≡ changed (λ d. withPath d v) (now (words .entry)) ⌝ }
 {
-    words[7] = v;
+    words[head_word::PATH] = v;
 }
 
 pub fn set_epoch(words: &mut [u32], v: u32)
     requires { ⌜ Sound (now words) ⌝ }
-    ensures { λ _. ⌜ now (words .exit) ≡ encode (withEpoch (decode (now (words .entry))) v) ⌝ }
+    ensures { λ _. ⌜ now (words .exit) ≡ changed (λ d. withEpoch d v) (now (words .entry)) ⌝ }
 {
-    words[8] = v;
+    words[head_word::EPOCH] = v;
+}
+
+// The ticks within which every store has become visible: the one age that flushes and scans go by.
+pub fn delay(words: &[u32]) -> u32
+    requires { ⌜ Sound (now words) ⌝ }
+    ensures { λ r. ⌜ r ≡ delay (decode (now (words .entry)) .params) ⌝ }
+{
+    words[head_word::VISIBILITY]
+}
+
+// The clock below which a node must have been retired to be older than the delay.
+fn aged_before(clock: u32, delay: u32) -> u32
+    ensures { λ r. ⌜ r ≡ clock - delay ⌝ }
+{
+    if delay < clock { clock - delay } else { 0 }
 }
 
 // ---- nodes
@@ -82,27 +105,28 @@ pub fn set_epoch(words: &mut [u32], v: u32)
 // Where the nodes start.
 fn nodes_at(words: &[u32]) -> usize
     requires { ⌜ Sound (now words) ⌝ }
-    ensures { λ r. ⌜ (r ≡ 9 + word (now (words .entry)) 0 * (28 + 3 * word (now (words .entry)) 1)) × (r + 5 * word (now (words .entry)) 2 ≡ length (now (words .entry))) ⌝ }
+    ensures { λ r. ⌜ r ≡ nodesStart shape (paramsIn (now (words .entry)) .processes) (paramsIn (now (words .entry)) .hazards) ⌝ }
+    ensures { λ r. ⌜ r + shape .nodes .width (paramsIn (now (words .entry)) .nodes) ≡ length (now (words .entry)) ⌝ }
 {
-    layout::process_start(words[1], words[0])
+    layout::process_start(words[head_word::HAZARDS], words[head_word::PROCESSES])
 }
 
 // Node c.
 pub fn node(words: &[u32], c: NodeId) -> Node
-    requires { ⌜ Sound (now words) × (c .0 < word (now words) 2) ⌝ }
+    requires { ⌜ Sound (now words) × (c .0 < paramsIn (now words) .nodes) ⌝ }
     ensures { λ r. ⌜ nodeValue r ≡ nodeOf (decode (now (words .entry))) (c .0) ⌝ }
 {
-    let m = words[2];
+    let m = words[head_word::NODES];
     let a = nodes_at(words);
     nodes::node(&words[a..], m, c)
 }
 
 // Node c becomes x.
 pub fn set_node(words: &mut [u32], c: NodeId, x: Node)
-    requires { ⌜ Sound (now words) × (c .0 < word (now words) 2) ⌝ }
-    ensures { λ _. ⌜ now (words .exit) ≡ encode (setNode (decode (now (words .entry))) (c .0) (nodeValue x)) ⌝ }
+    requires { ⌜ Sound (now words) × (c .0 < paramsIn (now words) .nodes) ⌝ }
+    ensures { λ _. ⌜ now (words .exit) ≡ changed (λ d. setNode d (c .0) (nodeValue x)) (now (words .entry)) ⌝ }
 {
-    let m = words[2];
+    let m = words[head_word::NODES];
     let a = nodes_at(words);
     nodes::put(&mut words[a..], m, c, x);
 }
@@ -112,9 +136,9 @@ pub fn reachable_count(words: &[u32]) -> u32
     requires { ⌜ Sound (now words) ⌝ }
     ensures { λ r. ⌜ r ≡ reachableCount (decode (now (words .entry))) ⌝ }
 {
-    let m = words[2];
+    let m = words[head_word::NODES];
     let a = nodes_at(words);
-    counts::reachable_count(&words[a..], m)
+    nodes::counts::reachable_count(&words[a..], m)
 }
 
 // How many Retired nodes process p has.
@@ -122,32 +146,38 @@ pub fn retired_count(words: &[u32], p: ProcessId) -> u32
     requires { ⌜ Sound (now words) ⌝ }
     ensures { λ r. ⌜ r ≡ count (retiredBy (p .0)) (decode (now (words .entry)) .nodes) ⌝ }
 {
-    let m = words[2];
+    let m = words[head_word::NODES];
     let a = nodes_at(words);
-    counts::retired_count(&words[a..], m, p)
+    nodes::counts::retired_count(&words[a..], m, p)
 }
 
 // ---- sweeps
 
-// Frees each Retired node of process p that is older than the delay and not marked, and answers how many.
-pub fn sweep_due(words: &mut [u32], p: ProcessId, marks: &[bool; 257]) -> u32
-    requires { ⌜ Sound (now words) ⌝ }
-    ensures { λ r. ⌜ Does (freeing (decode (now (words .entry))) (unmarked (decode (now (words .entry))) (p .0) (now (marks .entry)))) (now (words .exit)) r ⌝ }
+// Frees each Retired node of process p from node `from` up to node `to`, that one left out, that is older than the delay and not marked,
+// and answers how many.
+pub fn sweep_due(
+    words: &mut [u32],
+    p: ProcessId,
+    from: u32,
+    to: u32,
+    marks: &[bool; most::MARKS],
+) -> u32
+    requires { ⌜ Sound (now words) × (from ≤ to) × (to ≤ paramsIn (now words) .nodes) ⌝ }
+    ensures { λ r. ⌜ (let d = decode (now (words .entry)) in Does (freeing d (unmarked d (p .0) from to (now (marks .entry)))) (now (words .exit)) r) ⌝ }
 {
-    let m = words[2];
-    let delay = words[3];
-    let clock = words[6];
+    let m = words[head_word::NODES];
+    let limit = aged_before(words[head_word::CLOCK], delay(words));
     let a = nodes_at(words);
-    sweeps::sweep_due(&mut words[a..], m, p, clock, delay, marks)
+    nodes::sweeps::sweep_due(&mut words[a..], m, p, from, to, limit, marks)
 }
 
 // Frees each Retired node of process p in the limbo list of the global epoch, and answers how many.
 pub fn sweep_expired(words: &mut [u32], p: ProcessId) -> u32
     requires { ⌜ Sound (now words) ⌝ }
-    ensures { λ r. ⌜ Does (freeing (decode (now (words .entry))) (expired (decode (now (words .entry))) (p .0))) (now (words .exit)) r ⌝ }
+    ensures { λ r. ⌜ (let d = decode (now (words .entry)) in Does (freeing d (expired d (p .0))) (now (words .exit)) r) ⌝ }
 {
-    let m = words[2];
-    let epoch = words[8];
+    let m = words[head_word::NODES];
+    let epoch = words[head_word::EPOCH];
     let a = nodes_at(words);
-    sweeps::sweep_expired(&mut words[a..], m, p, epoch)
+    nodes::sweeps::sweep_expired(&mut words[a..], m, p, epoch)
 }

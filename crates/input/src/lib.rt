@@ -1,8 +1,13 @@
-// Standard input read whole, up to the size of a buffer, in whatever chunks it comes.
+// Standard input read whole, up to the size of a buffer, in whatever chunks it comes. What the bytes are is outside of any contract: the
+// system's read says it.
+ghost use Prim.Native.Nat.{_≤_};
+ghost use lib.ListN.{length};
+ghost use Rattle.input.specs.Count.{readCount};
 
-// What was read: so many bytes at the start of the buffer.
+// What was read: so many bytes at the start of the buffer, and they are all of the input; or the buffer is full, and there may be more.
 pub enum Input {
-    Bytes(usize),
+    Whole(usize),
+    Full(usize),
     Failed,
 }
 
@@ -13,13 +18,9 @@ struct Got {
 }
 
 // One read into buf from `from` on.
-fn read_at(fd: i32, buf: &mut [u8], from: usize) -> Got {
-    if buf.len() < from {
-        return Got {
-            ok: false,
-            count: 0,
-        };
-    }
+fn read_at(fd: i32, buf: &mut [u8], from: usize) -> Got
+    requires { ⌜ from ≤ length (now buf) ⌝ }
+{
     let got = libc::read(fd, &mut buf[from..]);
     let count = io::count(got, buf);
     Got {
@@ -28,21 +29,24 @@ fn read_at(fd: i32, buf: &mut [u8], from: usize) -> Got {
     }
 }
 
-// Reads until buf is full, the input ends, or a read fails.
-pub fn read_all(fd: i32, buf: &mut [u8; 65537]) -> Input {
+// Reads until buf is full, the input ends, or a read fails. The count is never more than the buffer holds; that so many bytes were read,
+// and which, is not stated, since no contract says what a read leaves.
+pub fn read_all(fd: i32, buf: &mut [u8]) -> Input
+    ensures { λ r. ⌜ readCount r ≤ length (now (buf .exit)) ⌝ }
+{
     let mut done: usize = 0;
-    while done < 65537 {
+    while done < buf.len() {
         let got = read_at(fd, buf, done);
         if !got.ok {
             return Input::Failed;
         }
         if got.count == 0 {
-            return Input::Bytes(done);
+            return Input::Whole(done);
         }
-        if 65537 - done < got.count {
+        if buf.len() - done < got.count {
             return Input::Failed;
         }
         done += got.count;
     }
-    Input::Bytes(done)
+    Input::Full(done)
 }

@@ -1,44 +1,74 @@
--- The code's table is the model's, over the whole table; a number past it is no kind. Assumes nothing.
-use Prim.Native.Nat.{ℕ, _<_}
-use mathlib.Core.Bool.{true, false}
-use mathlib.Core.List.{List, [], _∷_}
-use mathlib.Core.Path.{_≡_, refl}
+-- The numbers of the kinds, those that are none's, and a state as the table says it. Assumes nothing.
+use Prim.Native.Nat.{ℕ, _<_, _≤_}
+use mathlib.Core.Bool.{Bool, true, false, not, _&&_, _||_}
+use mathlib.Core.Logic.{_≢_}
+use mathlib.Core.Path.{_≡_, refl, sym, _∙_}
 use native.Mathlib.Omega.{arith}
-use borrow.Author.Tests.{ne-eqb}
+use borrow.Author.Tests.{ne-eqb, lt-leb, ltb-true, ltb-false}
+use lib.Dec.{leb, ltb, eqb}
 use Rattle.lists.specs.Table.{tableFrom}
-use Rattle.model.specs.Kinds.{kindOf, Unknown}
-use Rattle.kinds.specs.Table.{rowCode}
-use Rattle.kinds.specs.declared.Row.{Row}
+use Rattle.lists.proofs.Table.{table-at}
+use Rattle.model.specs.Kinds.{Kind, kindOf, is, meets, rowOf, Allocate, Publish, Protect, Check, Use, Clear}
+use Rattle.model.specs.Kinds.{Remove, Retire, Drain, Flush, Tick, Manage, ClearPresence, Unknown}
+use Rattle.kinds.specs.Table.{neededCode}
 
-abbrev pub row : ℕ → ℕ → ℕ → ℕ → ℕ → Row
-row p h n g k = record { process = p; hazard = h; node = n; guest = g; needs = k; owns = false }
+-- a number that is none of the kinds'
+pub none-of : (n : ℕ) → n ≢ 1 → n ≢ 2 → n ≢ 3 → n ≢ 4 → n ≢ 5 → n ≢ 6 → n ≢ 7 → n ≢ 8 → n ≢ 9 → n ≢ 10 → n ≢ 11 → n ≢ 12 → n ≢ 13
+    → kindOf n ≡ Unknown
+none-of n h1 h2 h3 h4 h5 h6 h7 h8 h9 h10 h11 h12 h13 =
+    rw (
+      ne-eqb n 1 h1,
+      ne-eqb n 2 h2,
+      ne-eqb n 3 h3,
+      ne-eqb n 4 h4,
+      ne-eqb n 5 h5,
+      ne-eqb n 6 h6,
+      ne-eqb n 7 h7,
+      ne-eqb n 8 h8,
+      ne-eqb n 9 h9,
+      ne-eqb n 10 h10,
+      ne-eqb n 11 h11,
+      ne-eqb n 12 h12,
+      ne-eqb n 13 h13,
+    )
 
-abbrev owned : Row → Row
-owned r = record { process = r .process; hazard = r .hazard; node = r .node; guest = r .guest; needs = r .needs; owns = true }
-
--- ROWS
-abbrev pub table : List Row
-table =
-    row 0 0 0 0 5 ∷ row 1 0 3 4 0 ∷ owned (row 1 0 3 0 1) ∷ row 1 2 3 0 5 ∷ row 1 2 0 0 5 ∷ row 1 2 0 0 5 ∷ row 1 2 0 0 5
-    ∷ row 1 0 3 0 2 ∷ owned (row 1 0 3 0 3) ∷ row 1 0 0 0 5 ∷ row 1 0 0 0 5 ∷ row 0 0 0 0 5 ∷ row 1 0 0 0 5 ∷ row 0 0 0 0 5 ∷ []
-
-pub table-right : table ≡ tableFrom (λ n. rowCode (kindOf n)) 0 14
-table-right = refl
-
+-- past the last number there is no kind
 pub unknown : (n : ℕ) → 13 < n → kindOf n ≡ Unknown
 unknown n h =
-    rw (
-      ne-eqb n 1 (λ e. omega arith),
-      ne-eqb n 2 (λ e. omega arith),
-      ne-eqb n 3 (λ e. omega arith),
-      ne-eqb n 4 (λ e. omega arith),
-      ne-eqb n 5 (λ e. omega arith),
-      ne-eqb n 6 (λ e. omega arith),
-      ne-eqb n 7 (λ e. omega arith),
-      ne-eqb n 8 (λ e. omega arith),
-      ne-eqb n 9 (λ e. omega arith),
-      ne-eqb n 10 (λ e. omega arith),
-      ne-eqb n 11 (λ e. omega arith),
-      ne-eqb n 12 (λ e. omega arith),
-      ne-eqb n 13 (λ e. omega arith),
-    )
+    none-of n (λ e. omega arith) (λ e. omega arith) (λ e. omega arith) (λ e. omega arith) (λ e. omega arith) (λ e. omega arith)
+    (λ e. omega arith) (λ e. omega arith) (λ e. omega arith) (λ e. omega arith) (λ e. omega arith) (λ e. omega arith) (λ e. omega arith)
+
+-- the numbers of the kinds are 1 to 13
+pub known-is : (n : ℕ) → (leb 1 n && leb n 13) ≡ not (is (kindOf n) Unknown)
+known-is n = by (ltb n 14) refl
+  where
+    by : (b : Bool) → ltb n 14 ≡ b → (leb 1 n && leb n 13) ≡ not (is (kindOf n) Unknown)
+    by true e =
+        let few : n < 14 = ltb-true n 14 e in
+        let f : ℕ → Bool = λ i. leb 1 i && leb i 13 in
+        let g : ℕ → Bool = λ i. not (is (kindOf i) Unknown) in
+        sym (table-at f (tableFrom f 0 14) 14 n true refl few) ∙ table-at g (tableFrom f 0 14) 14 n true refl few
+    by false e =
+        let many : 14 ≤ n = ltb-false n 14 e in
+        rw (unknown n (omega arith), lt-leb n 13 (omega arith)) (no-more (leb 1 n))
+      where
+        no-more : (b : Bool) → (b && false) ≡ false
+        no-more true = refl
+        no-more false = refl
+
+-- a state as the code asks for it
+pub state-asked : (k : Kind) (m : ℕ) → (eqb (neededCode (rowOf k .needs)) 5 || eqb m (neededCode (rowOf k .needs))) ≡ meets (rowOf k .needs) m
+state-asked Allocate m = refl
+state-asked Publish m = refl
+state-asked Protect m = refl
+state-asked Check m = refl
+state-asked Use m = refl
+state-asked Clear m = refl
+state-asked Remove m = refl
+state-asked Retire m = refl
+state-asked Drain m = refl
+state-asked Flush m = refl
+state-asked Tick m = refl
+state-asked Manage m = refl
+state-asked ClearPresence m = refl
+state-asked Unknown m = refl

@@ -1,6 +1,6 @@
 -- Each test of a record at a place of the words, as the facts that it stands for, and back. Assumes nothing.
 use Prim.Native.Nat.{ℕ, _+_, _<_, _≤_}
-use mathlib.Core.Bool.{Bool, true, false, not, _&&_, _||_, or-true}
+use mathlib.Core.Bool.{Bool, true, not, _&&_}
 use mathlib.Core.List.{List}
 use mathlib.Core.Path.{_≡_, refl, ap}
 use mathlib.Core.Logic.{_≢_}
@@ -9,20 +9,39 @@ use borrow.Author.Tests.{leb-true, ltb-true, ltb-false, eqb-true, eqb-false, not
 use borrow.Author.Tests.{ne-eqb}
 use Rattle.lists.specs.Tests.{implies}
 use Rattle.lists.proofs.Bools.{by-cond, both, implied, imply}
-use Rattle.model.specs.Params.{Params}
-use Rattle.model.specs.State.{Free, Reachable, Retired}
-use Rattle.model.specs.WellFormed.{NodeFits, HazardFits, PendingFits}
-use Rattle.layout.specs.Shape.{word}
-use Rattle.layout.specs.Words.{hazardFits, storeFits, nodeFits}
-use Rattle.layout.proofs.Places.{hazardFrom, pendingFrom, nodeFrom}
+use Rattle.model.specs.Params.{Params, bufferSize}
+use Rattle.model.specs.WellFormed.{HazardFits, PendingFits}
+use Rattle.layout.specs.Shape.{Lead, word}
+use Rattle.layout.specs.Words.{leadFits, hazardFits, storeFits}
+use Rattle.layout.proofs.Places.{hazardFrom, pendingFrom}
 
 pub pass : {a b : Bool} → a ≡ true → b ≡ true → (a && b) ≡ true
 pass h k = rw (h, k)
 
--- what follows from each of two tests follows from either
-either : {C : Type 0} (a b : Bool) → (a || b) ≡ true → (a ≡ true → C) → (b ≡ true → C) → C
-either true b h f g = f refl
-either false b h f g = g h
+-- the lead of a process
+pub record LeadFits (q : ℕ) (l : Lead) : Type 0 where
+  pub epoch : l .epoch ≤ 2
+  pub calls : l .calls < q
+  pub presence : l .presence ≤ 1
+  pub stores : l .stores ≤ bufferSize
+
+pub lead-facts : (q : ℕ) (l : Lead) → leadFits q l ≡ true → LeadFits q l
+unfolding leadFits
+lead-facts q l e =
+    let e₀ = both (leb (l .epoch) 2) _ e in
+    let e₁ = both (ltb (l .calls) q) _ (e₀ .1) in
+    let e₂ = both (leb (l .presence) 1) _ (e₁ .1) in
+    record {
+      epoch = leb-true _ _ (e₀ .0);
+      calls = ltb-true _ _ (e₁ .0);
+      presence = leb-true _ _ (e₂ .0);
+      stores = leb-true _ _ (e₂ .1);
+    }
+
+pub lead-test : (q : ℕ) (l : Lead) → LeadFits q l → leadFits q l ≡ true
+unfolding leadFits
+lead-test q l f =
+    pass (le-leb _ _ (f .epoch)) (pass (lt-ltb _ _ (f .calls)) (pass (le-leb _ _ (f .presence)) (le-leb _ _ (f .stores))))
 
 module _ (p : Params) (ws : List ℕ) (a : ℕ) where
   pub hazard-facts : hazardFits (p .nodes) ws a ≡ true → HazardFits p (hazardFrom ws a)
@@ -47,42 +66,6 @@ module _ (p : Params) (ws : List ℕ) (a : ℕ) where
       (imply _ _ (λ h. ap not (ne-eqb _ _ (f .claimed (eqb-true _ _ h)))))))
 
   module _ (clock : ℕ) where
-    pub node-facts : nodeFits (p .processes) clock ws a ≡ true → NodeFits p clock (nodeFrom ws a)
-    unfolding nodeFits
-    node-facts e =
-        let e₀ = both (leb (word ws a) 4) _ e in
-        let e₁ = both (ltb (word ws (a + 1)) (p .processes)) _ (e₀ .1) in
-        let e₂ = both (leb (word ws (a + 3)) clock) _ (e₁ .1) in
-        let e₃ = both (leb (word ws (a + 4)) 2) _ (e₂ .1) in
-        let e₄ = both (implies (eqb (word ws a) Free || eqb (word ws a) Reachable) (eqb (word ws (a + 1)) 0)) _ (e₃ .1) in
-        let e₅ = both (implies (not (eqb (word ws a) Retired)) (eqb (word ws (a + 3)) 0 && eqb (word ws (a + 4)) 0)) _ (e₄ .1) in
-        let owner : (eqb (word ws a) Free || eqb (word ws a) Reachable) ≡ true → word ws (a + 1) ≡ 0 =
-        λ h. eqb-true _ _ (implied (eqb (word ws a) Free || eqb (word ws a) Reachable) _ (e₄ .0) h) in
-        let late : word ws a ≢ Retired → (eqb (word ws (a + 3)) 0 && eqb (word ws (a + 4)) 0) ≡ true =
-        λ h. implied (not (eqb (word ws a) Retired)) _ (e₅ .0) (ap not (ne-eqb _ _ h)) in
-        record {
-          state = leb-true _ _ (e₀ .0);
-          owner = ltb-true _ _ (e₁ .0);
-          retiredAt = leb-true _ _ (e₂ .0);
-          limbo = leb-true _ _ (e₃ .0);
-          free = λ h. (owner (rw (eq-eqb _ Free h)), eqb-true _ _ (implied (eqb (word ws a) Free) _ (e₅ .1) (eq-eqb _ _ h)));
-          reachable = λ h. owner (rw (eq-eqb _ Reachable h, or-true));
-          unretired = λ h. let z = both (eqb (word ws (a + 3)) 0) _ (late h) in (eqb-true _ _ (z .0), eqb-true _ _ (z .1));
-        }
-
-    pub node-test : NodeFits p clock (nodeFrom ws a) → nodeFits (p .processes) clock ws a ≡ true
-    unfolding nodeFits
-    node-test f =
-        let owner : (eqb (word ws a) Free || eqb (word ws a) Reachable) ≡ true → eqb (word ws (a + 1)) 0 ≡ true =
-        λ h. eq-eqb _ _ (either _ _ h (λ e. f .free (eqb-true _ _ e) .0) (λ e. f .reachable (eqb-true _ _ e))) in
-        pass (le-leb _ _ (f .state))
-        (pass (lt-ltb _ _ (f .owner))
-        (pass (le-leb _ _ (f .retiredAt))
-        (pass (le-leb _ _ (f .limbo))
-        (pass (imply (eqb (word ws a) Free || eqb (word ws a) Reachable) _ owner)
-        (pass (imply _ _ (λ h. let z = f .unretired (eqb-false _ _ (not-true _ h)) in pass (eq-eqb _ _ (z .0)) (eq-eqb _ _ (z .1))))
-        (imply _ _ (λ h. eq-eqb _ _ (f .free (eqb-true _ _ h) .1))))))))
-
     -- place e of a buffer with so many stores
     module _ (stores e : ℕ) where
       pub store-facts : e < stores → storeFits stores (p .hazards) (p .nodes) clock ws a e ≡ true → PendingFits p clock (pendingFrom ws a)

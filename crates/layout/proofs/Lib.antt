@@ -3,7 +3,9 @@ pub mod Sound
 pub mod Whole
 pub mod Places
 pub mod Fits
+pub mod FitsNodes
 pub mod FitsProcess
 pub mod Checked
-pub mod Fresh
+pub mod FreshWords
 pub mod Room
+pub mod Ranges

@@ -1,17 +1,20 @@
 -- The words of all processes are few, by their numbers and by those that the code has read. Assumes nothing.
 use Prim.Native.Nat.{ℕ, _+_, _*_, _≤_}
-use mathlib.Core.Path.{_≡_}
+use mathlib.Core.Path.{_≡_, refl}
 use native.Mathlib.Omega.{arith}
 use native.Mathlib.Nat.{le-trans, mul-le-mul-left, mul-le-mul-right}
-use Rattle.layout.specs.Codecs.{shape}
-use Rattle.layout.specs.Shape.{processStart}
+use Rattle.model.specs.Params.{mostProcesses, mostHazards}
+use Rattle.layout.specs.Shape.{Shape, processWidth, processStart}
+use Rattle.layout.specs.Encode.{shape}
+use Rattle.layout.specs.Sound.{mostRows}
 
-pub rows-small : (n k : ℕ) → n ≤ 16 → k ≤ 8 → n * (28 + 3 * k) ≤ 832
-rows-small n k h l = le-trans (mul-le-mul-left n (omega arith)) (mul-le-mul-right 52 h)
+pub rows-small : (sh : Shape) (n k : ℕ) → n ≤ mostProcesses → k ≤ mostHazards → n * processWidth sh k ≤ mostRows sh
+rows-small sh n k h l = le-trans (mul-le-mul-left n (omega arith)) (mul-le-mul-right (processWidth sh mostHazards) h)
 
-module _ {n k i j : ℕ} (h : k ≤ 8) (l : n ≤ 16) (ek : j ≡ k) (en : i ≡ n) where
-  pub few : i * (28 + 3 * j) ≤ 832
-  few = rw (en, ek) (rows-small n k l h)
+-- i processes of w words, as the code has them: i read off n, and w the width with j hazards, read off k
+module _ {n k i j w : ℕ} (h : k ≤ mostHazards) (l : n ≤ mostProcesses) (en : i ≡ n) (ek : j ≡ k) (ew : w ≡ processWidth shape j) where
+  pub few : i * w ≤ mostRows shape
+  few = rw (en, ew, ek) (rows-small shape n k l h)
 
-  pub start-at : (9 + i * (28 + 3 * j) ≡ processStart shape k n) × (9 + i * (28 + 3 * j) ≤ 841)
-  start-at = rw (en, ek) (omega arith, omega (arith, rows-small n k l h))
+  pub start-at : (shape .headWidth + i * w ≡ processStart shape k n) × (shape .headWidth + i * w ≤ processStart shape mostHazards mostProcesses)
+  start-at = rw (en, ew, ek) (refl, omega (arith, rows-small shape n k l h))

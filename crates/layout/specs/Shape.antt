@@ -1,14 +1,24 @@
--- The records that stand in a domain's words, each as a row of a fixed width; the shape of a layout; and where things stand in it.
--- Assumes nothing.
+-- What stands in a domain's words beside its lists: the head and the lead of a process; the shape of a layout; and where things stand
+-- in it. Assumes nothing.
 use Prim.Native.Nat.{ℕ, _+_, _*_}
-use mathlib.Core.List.{List, [], _∷_}
+use mathlib.Core.Bool.{Bool, true}
+use mathlib.Core.List.{List}
+use mathlib.Core.Path.{_≡_}
 use lib.ListN.{length, getD}
+use Rattle.lists.specs.Tests.{All}
 use Rattle.lists.specs.Rows.{Codec}
-use Rattle.model.specs.Params.{Params}
-use Rattle.model.specs.State.{Pending, Hazard, Process, Node, Domain}
+use Rattle.model.specs.Params.{Params, hazardWidth, storeWidth, bufferWidth}
+use Rattle.model.specs.State.{Process, Node, Domain}
 
 abbrev pub word : List ℕ → ℕ → ℕ
 word ws i = getD ws i 0
+
+-- the words of a step in a list of steps, and of an answer in a list of answers
+abbrev pub stepWidth : ℕ
+stepWidth = 5
+
+abbrev pub answerWidth : ℕ
+answerWidth = 2
 
 -- ---- the words of a domain before its processes, and those of a process before its hazards
 
@@ -31,70 +41,52 @@ headOf d = record { params = d .params; clock = d .clock; path = d .path; epoch 
 abbrev pub leadOf : Process → Lead
 leadOf x = record { epoch = x .epoch; calls = x .calls; presence = x .presence; stores = length (x .buffer) }
 
--- ---- each as words, in the paper's order
+-- ---- the nodes' part, from where the nodes start to the end: a codec of the whole list of nodes
 
-abbrev pub headWords : Head → List ℕ
-headWords h =
-    h .params .processes ∷ h .params .hazards ∷ h .params .nodes ∷ h .params .visibilityBound ∷ h .params .quiescenceThreshold
-    ∷ h .params .fallbackThreshold ∷ h .clock ∷ h .path ∷ h .epoch ∷ []
+pub record NodesCodec : Type 0 where
+  -- the words of m nodes
+  pub width : ℕ → ℕ
+  pub put : List Node → List ℕ
+  -- m nodes
+  pub get : ℕ → List ℕ → List Node
+  -- which words of m nodes are in their ranges, with n processes and at a clock
+  pub fits : ℕ → ℕ → ℕ → List ℕ → Bool
+  pub holds : Node → Bool
+  pub long : (ns : List Node) → length (put ns) ≡ width (length ns)
+  pub count : (m : ℕ) (r : List ℕ) → length (get m r) ≡ m
+  -- only what it holds is read back as it was, and only words that fit are written back as they were
+  pub back : (ns : List Node) → All (λ n. holds n ≡ true) ns → get (length ns) (put ns) ≡ ns
+  pub forth : (n clock m : ℕ) (r : List ℕ) → length r ≡ width m → fits n clock m r ≡ true → put (get m r) ≡ r
 
-abbrev pub headAt : List ℕ → Head
-headAt r =
-    record {
-      params = record {
-        processes = word r 0;
-        hazards = word r 1;
-        nodes = word r 2;
-        visibilityBound = word r 3;
-        quiescenceThreshold = word r 4;
-        fallbackThreshold = word r 5;
-      };
-      clock = word r 6;
-      path = word r 7;
-      epoch = word r 8;
-    }
-
-abbrev pub leadWords : Lead → List ℕ
-leadWords l = l .epoch ∷ l .calls ∷ l .presence ∷ l .stores ∷ []
-
-abbrev pub leadAt : List ℕ → Lead
-leadAt r = record { epoch = word r 0; calls = word r 1; presence = word r 2; stores = word r 3 }
-
-abbrev pub hazardWords : Hazard → List ℕ
-hazardWords h = h .visible ∷ h .assigned ∷ h .validated ∷ []
-
-abbrev pub hazardAt : List ℕ → Hazard
-hazardAt r = record { visible = word r 0; assigned = word r 1; validated = word r 2 }
-
-abbrev pub pendingWords : Pending → List ℕ
-pendingWords e = e .hazard ∷ e .node ∷ e .time ∷ []
-
-abbrev pub pendingAt : List ℕ → Pending
-pendingAt r = record { hazard = word r 0; node = word r 1; time = word r 2 }
-
-abbrev pub nodeWords : Node → List ℕ
-nodeWords n = n .state ∷ n .owner ∷ n .guest ∷ n .retiredAt ∷ n .limbo ∷ []
-
-abbrev pub nodeAt : List ℕ → Node
-nodeAt r = record { state = word r 0; owner = word r 1; guest = word r 2; retiredAt = word r 3; limbo = word r 4 }
-
--- ---- a layout: how a head, the lead of a process and a node stand in words
+-- ---- a layout: how a head, the lead of a process and the nodes stand in words. A hazard and a pending store are the same in all
 
 pub record Shape : Type 0 where
   pub headWidth : ℕ
   pub leadWidth : ℕ
-  pub nodeWidth : ℕ
   pub head : Codec Head headWidth
   pub lead : Codec Lead leadWidth
-  pub node : Codec Node nodeWidth
+  pub nodes : NodesCodec
 
--- a hazard and a pending store take 3 words in every layout, a buffer 24
+-- in the words of a process: where hazard h starts; where the stores start, after k hazards; where store e does
+abbrev pub hazardPlace : Shape → ℕ → ℕ
+hazardPlace sh h = sh .leadWidth + hazardWidth * h
+
+abbrev pub storesPlace : Shape → ℕ → ℕ
+storesPlace sh k = hazardPlace sh k
+
+abbrev pub storePlace : Shape → ℕ → ℕ → ℕ
+storePlace sh k e = storesPlace sh k + storeWidth * e
+
+-- the words of a process with k hazards
 abbrev pub processWidth : Shape → ℕ → ℕ
-processWidth sh k = sh .leadWidth + 24 + 3 * k
+processWidth sh k = sh .leadWidth + bufferWidth + hazardWidth * k
 
--- where process p starts, and where the nodes do, with k hazards a process
+-- where process p starts, and where the nodes do, with k hazards a process; the words of a domain
 abbrev pub processStart : Shape → ℕ → ℕ → ℕ
 processStart sh k p = sh .headWidth + p * processWidth sh k
 
 abbrev pub nodesStart : Shape → ℕ → ℕ → ℕ
 nodesStart sh n k = processStart sh k n
+
+abbrev pub wordCountBy : Shape → Params → ℕ
+wordCountBy sh a = nodesStart sh (a .processes) (a .hazards) + sh .nodes .width (a .nodes)

@@ -1,31 +1,37 @@
--- Which words are well formed: the paper's 'Well formed means', clause by clause, in words and their places. Assumes nothing.
-use Prim.Native.Nat.{ℕ, _+_, _*_}
-use mathlib.Core.Bool.{Bool, not, _&&_, _||_, cond}
+-- Which words are well formed: the paper's 'Well formed means', clause by clause, in any layout. Assumes nothing.
+use Prim.Native.Nat.{ℕ, _+_}
+use mathlib.Core.Bool.{Bool, not, _&&_, cond}
 use mathlib.Core.List.{List}
-use lib.ListN.{length}
+use lib.ListN.{length, drop}
 use lib.Dec.{leb, ltb, eqb}
 use Rattle.lists.specs.Tests.{implies}
 use Rattle.lists.specs.Upto.{allUpto}
-use Rattle.model.specs.Params.{bufferSize, lastClock, wordCount}
-use Rattle.model.specs.State.{Free, Reachable, Retired}
-use Rattle.layout.specs.Shape.{word, headAt, processStart, nodesStart}
-use Rattle.layout.specs.Codecs.{shape}
+use Rattle.model.specs.Params.{Params, mostProcesses, mostHazards, mostNodes, mostTicks, mostCalls, mostRetired}
+use Rattle.model.specs.Params.{bufferSize, lastClock}
+use Rattle.model.specs.State.{Fallback}
+use Rattle.layout.specs.Shape.{Shape, Head, Lead, word, hazardPlace, storePlace, processStart, nodesStart}
+use Rattle.layout.specs.Shape.{wordCountBy}
+use Rattle.layout.specs.Encode.{shape}
 
 abbrev pub between : ℕ → ℕ → ℕ → Bool
 between low high n = leb low n && leb n high
 
--- the head: N, K, M, T, Q, C, clock, path, global epoch
-unfoldable pub headFits : List ℕ → Bool
-headFits ws =
-    between 1 16 (word ws 0)
-    && (between 1 8 (word ws 1)
-    && (between 1 256 (word ws 2)
-    && (between 1 1000 (word ws 3)
-    && (between 1 1000 (word ws 4)
-    && (between 1 256 (word ws 5)
-    && (leb (word ws 6) lastClock
-    && (leb (word ws 7) 1
-    && leb (word ws 8) 2)))))))
+-- N, K, M, T, Q, C, clock, path, global epoch
+unfoldable pub headFits : Head → Bool
+headFits h =
+    between 1 mostProcesses (h .params .processes)
+    && (between 1 mostHazards (h .params .hazards)
+    && (between 1 mostNodes (h .params .nodes)
+    && (between 1 mostTicks (h .params .visibilityBound)
+    && (between 1 mostCalls (h .params .quiescenceThreshold)
+    && (between 1 mostRetired (h .params .fallbackThreshold)
+    && (leb (h .clock) lastClock
+    && (leb (h .path) Fallback
+    && leb (h .epoch) 2)))))))
+
+-- local epoch, calls, presence, stores, with the quiescence threshold q
+unfoldable pub leadFits : ℕ → Lead → Bool
+leadFits q l = leb (l .epoch) 2 && (ltb (l .calls) q && (leb (l .presence) 1 && leb (l .stores) bufferSize))
 
 -- a hazard at place a: visible and assigned node at most M, a validation of 1 only where one is assigned
 unfoldable pub hazardFits : ℕ → List ℕ → ℕ → Bool
@@ -42,35 +48,33 @@ storeFits stores k m clock ws a e =
     (ltb (word ws a) k && (leb (word ws (a + 1)) m && leb (word ws (a + 2)) clock))
     (eqb (word ws a) 0 && (eqb (word ws (a + 1)) 0 && eqb (word ws (a + 2)) 0))
 
--- a process at place a: local epoch, calls, presence, stores; its K hazards; its buffer's eight places
-unfoldable pub processFits : ℕ → ℕ → ℕ → ℕ → List ℕ → ℕ → Bool
-processFits k m q clock ws a =
-    leb (word ws a) 2
-    && (ltb (word ws (a + 1)) q
-    && (leb (word ws (a + 2)) 1
-    && (leb (word ws (a + 3)) bufferSize
-    && (allUpto (λ h. hazardFits m ws (a + 4 + 3 * h)) k
-    && allUpto (λ e. storeFits (word ws (a + 3)) k m clock ws (a + (4 + 3 * k) + 3 * e) e) bufferSize))))
+module _ (sh : Shape) where
+  -- a process at place a: its lead, its K hazards, its buffer's places
+  unfoldable pub processFitsBy : Params → ℕ → List ℕ → ℕ → Bool
+  processFitsBy p clock ws a =
+      leadFits (p .quiescenceThreshold) (sh .lead .get (drop a ws))
+      && (allUpto (λ h. hazardFits (p .nodes) ws (a + hazardPlace sh h)) (p .hazards)
+      && allUpto
+      (λ e. storeFits (sh .lead .get (drop a ws) .stores) (p .hazards) (p .nodes) clock ws (a + storePlace sh (p .hazards) e) e) bufferSize)
 
--- a node at place a: state, owner, guest, retiredAt, limbo
-unfoldable pub nodeFits : ℕ → ℕ → List ℕ → ℕ → Bool
-nodeFits n clock ws a =
-    leb (word ws a) 4
-    && (ltb (word ws (a + 1)) n
-    && (leb (word ws (a + 3)) clock
-    && (leb (word ws (a + 4)) 2
-    && (implies (eqb (word ws a) Free || eqb (word ws a) Reachable) (eqb (word ws (a + 1)) 0)
-    && (implies (not (eqb (word ws a) Retired)) (eqb (word ws (a + 3)) 0 && eqb (word ws (a + 4)) 0)
-    && implies (eqb (word ws a) Free) (eqb (word ws (a + 2)) 0))))))
+  abbrev pub processesFitBy : Params → ℕ → List ℕ → Bool
+  processesFitBy p clock ws = allUpto (λ i. processFitsBy p clock ws (processStart sh (p .hazards) i)) (p .processes)
+
+  abbrev pub nodesFitBy : Params → ℕ → List ℕ → Bool
+  nodesFitBy p clock ws = sh .nodes .fits (p .processes) clock (p .nodes) (drop (nodesStart sh (p .processes) (p .hazards)) ws)
+
+  -- length right, every word in its range
+  unfoldable pub wellFormedBy : List ℕ → Bool
+  wellFormedBy ws =
+      let h = sh .head .get ws in
+      headFits h
+      && (eqb (length ws) (wordCountBy sh (h .params))
+      && (processesFitBy (h .params) (h .clock) ws && nodesFitBy (h .params) (h .clock) ws))
+
+-- ---- the paper's layout
 
 abbrev pub processesFit : List ℕ → Bool
-processesFit ws =
-    allUpto (λ p. processFits (word ws 1) (word ws 2) (word ws 4) (word ws 6) ws (processStart shape (word ws 1) p)) (word ws 0)
+processesFit ws = processesFitBy shape (shape .head .get ws .params) (shape .head .get ws .clock) ws
 
-abbrev pub nodesFit : List ℕ → Bool
-nodesFit ws =
-    allUpto (λ c. nodeFits (word ws 0) (word ws 6) ws (nodesStart shape (word ws 0) (word ws 1) + 5 * c)) (word ws 2)
-
--- length right, every word in its range
-unfoldable pub wellFormed : List ℕ → Bool
-wellFormed ws = headFits ws && (eqb (length ws) (wordCount (headAt ws .params)) && (processesFit ws && nodesFit ws))
+abbrev pub wellFormed : List ℕ → Bool
+wellFormed ws = wellFormedBy shape ws

@@ -1,10 +1,19 @@
 // The values that travel by value: ids, parameters, and the records that stand in a domain's words; a word as an index, where things
 // stand, and words cleared.
+pub mod fresh;
+pub mod words;
+
+use words::hazard_word;
+use words::head_word;
+use words::lead_word;
+use words::most;
+use words::node_word;
 ghost use mathlib.Core.Path.{_≡_};
 ghost use Prim.Native.Nat.{_+_, _*_, _<_, _≤_, _/_, _%_};
 ghost use lib.ListN.{length, replicate};
-ghost use Rattle.layout.specs.Codecs.{shape};
-ghost use Rattle.layout.specs.Shape.{processStart};
+ghost use Rattle.model.specs.Params.{mostProcesses, mostHazards, mostNodes};
+ghost use Rattle.layout.specs.Shape.{processWidth, processStart};
+ghost use Rattle.layout.specs.Encode.{shape};
 
 // A process (the paper's worker), a hazard of a process (slot) and a node (card), each counted from 0.
 pub struct ProcessId(pub u32);
@@ -73,12 +82,28 @@ pub fn high(pair: usize) -> u32
     (pair / 4294967296) as u32
 }
 
+// The words of a process with k hazards.
+pub fn process_width(k: usize) -> usize
+    requires { ⌜ k ≤ mostHazards ⌝ }
+    ensures { λ r. ⌜ r ≡ processWidth shape k ⌝ }
+{
+    lead_word::WIDTH + most::BUFFER + hazard_word::WIDTH * k
+}
+
 // Where process p starts, with k hazards a process; of the number of processes, where the nodes start.
 pub fn process_start(k: u32, p: u32) -> usize
-    requires { ⌜ (k ≤ 8) × (p ≤ 16) ⌝ }
-    ensures { λ r. ⌜ (r ≡ processStart shape k p) × (r ≤ 841) ⌝ }
+    requires { ⌜ (k ≤ mostHazards) × (p ≤ mostProcesses) ⌝ }
+    ensures { λ r. ⌜ (r ≡ processStart shape k p) × (r ≤ processStart shape mostHazards mostProcesses) ⌝ }
 {
-    9 + wide(p) * (28 + 3 * wide(k))
+    head_word::WIDTH + wide(p) * process_width(wide(k))
+}
+
+// The words of m nodes.
+pub fn nodes_width(m: u32) -> usize
+    requires { ⌜ m ≤ mostNodes ⌝ }
+    ensures { λ r. ⌜ r ≡ shape .nodes .width m ⌝ }
+{
+    node_word::WIDTH * wide(m)
 }
 
 // All words become 0.

@@ -1,6 +1,7 @@
 -- A flat list of numbers as rows of one width: its length, a number of it, a row of it, a row written, and the rows read back.
 -- Assumes nothing.
 use Prim.Native.Nat.{ℕ, zero, suc, _+_, _*_, _≤_, _<_}
+use mathlib.Core.Bool.{true}
 use mathlib.Core.List.{List, [], _∷_, _++_, append-assoc}
 use mathlib.Core.Path.{_≡_, refl, ap, sym, _∙_}
 use native.Mathlib.Omega.{arith}
@@ -157,9 +158,9 @@ module _ (p q r : List ℕ) (x w a : ℕ) (e : a ≡ length p + x) (h : x + w �
 -- ---- records as rows of a codec, with more behind them
 
 module _ {X : Type 0} {w : ℕ} (c : Codec X w) where
-  pub codec-get : (x : X) (rest : List ℕ) → c .get (c .put x ++ rest) ≡ x
-  codec-get x rest =
-      sym (c .front (c .put x ++ rest)) ∙ (ap (λ (r : List ℕ). c .get r) (take-at (c .put x) rest w (c .width x)) ∙ c .back x)
+  pub codec-get : (x : X) (rest : List ℕ) → c .holds x ≡ true → c .get (c .put x ++ rest) ≡ x
+  codec-get x rest h =
+      sym (c .front (c .put x ++ rest)) ∙ (ap (λ (r : List ℕ). c .get r) (take-at (c .put x) rest w (c .width x)) ∙ c .back x h)
 
   pub codec-put : (r : List ℕ) → w ≤ length r → c .put (c .get r) ≡ take w r
   codec-put r h = ap (λ (x : X). c .put x) (sym (c .front r)) ∙ c .forth (take w r) (length-take-le w r h)
@@ -167,10 +168,10 @@ module _ {X : Type 0} {w : ℕ} (c : Codec X w) where
   pub codec-length : (xs : List X) → length (rows (c .put) xs) ≡ length xs * w
   codec-length xs = length-rows (c .put) w (c .get []) xs (λ i _. c .width (getD xs i (c .get [])))
 
-  pub codec-unrows : (xs : List X) (rest : List ℕ) → unrows (c .get) w (length xs) (rows (c .put) xs ++ rest) ≡ xs
-  codec-unrows xs rest =
+  pub codec-unrows : (xs : List X) (rest : List ℕ) → ((x : X) → c .holds x ≡ true) → unrows (c .get) w (length xs) (rows (c .put) xs ++ rest) ≡ xs
+  codec-unrows xs rest h =
       let x₀ : X = c .get [] in
-      unrows-rows (c .get) w x₀ (c .put) xs rest (λ i _. c .width (getD xs i x₀)) (λ i _. c .back (getD xs i x₀))
+      unrows-rows (c .get) w x₀ (c .put) xs rest (λ i _. c .width (getD xs i x₀)) (λ i _. c .back (getD xs i x₀) (h (getD xs i x₀)))
 
   pub codec-rows : (n : ℕ) (ws : List ℕ) → n * w ≤ length ws → rows (c .put) (unrows (c .get) w n ws) ≡ take (n * w) ws
   codec-rows n ws h =

@@ -160,7 +160,10 @@ module _ (a : Params) (q : Reference) (h : History) where
       (λ _ few. record { fits = f; bounded = λ _ _. under few })
     where
       under : overfull d (s .process) ≡ false → count (retiredBy (s .process)) (d .nodes) ≤ bound a (noted q (atKind Retire s) h) (s .process)
-      under few = let less : count (retiredBy (s .process)) (d .nodes) < a .fallbackThreshold = rw (← (f .params)) (leb-false _ _ few) in omega arith
+      under few =
+          let less : count (retiredBy (s .process)) (d .nodes) < d .params .fallbackThreshold = omega (arith, leb-false) in
+          let c = ap (λ (x : Params). x .fallbackThreshold) (f .params) in
+          omega arith
 
   past-as : (k : Kind) (d : Domain) (s : Step) → Inv d → Fits a d h → Asked k d s → Past a q (atKind k s) h (accepted (act k d s))
   past-as Allocate d s i f r = past-quiet Allocate d s f refl (λ e. absurd (omega arith)) (quiet-node d (s .node) _ (λ _. refl))

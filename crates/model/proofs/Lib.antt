@@ -5,6 +5,7 @@ pub mod Walk
 pub mod KindNumbers
 pub mod Unread
 pub mod WellFormed
+pub mod EdgeStarts
 pub mod Freeing
 pub mod Panel
 pub mod Freed

@@ -94,10 +94,11 @@ module _ (d : Domain) (i : Inv d) where
   pub expired-unclaimed : (p q h c : ℕ) → processOf d p .epoch ≢ d .epoch → Claim d q h c → expired d p c (nodeOf d c) ≡ true → ⊥
   expired-unclaimed p q h c ne k t =
       let n = nodeOf d c in
-      let u = both (retiredBy p n) (eqb (n .limbo) (d .epoch)) t in
+      let u = both (retiredBy p n) _ t in
       let o = retired-by p n (u .0) in
       let l = held-by d i q h c k .limbo (o .0) in
-      ne (ap (epochIn (d .processes)) (sym (o .1)) ∙ l .home (eqb-true _ _ (u .1)))
+      let global : n .limbo ≡ d .epoch = omega (arith, eqb-true) in
+      ne (ap (epochIn (d .processes)) (sym (o .1)) ∙ l .home global)
 
   -- all local epochs have come to the global one: none is behind, so by G no claimed node is on the list of two epochs ago,
   -- which is the next global epoch's
@@ -144,7 +145,7 @@ module _ (d : Domain) (i : Inv d) where
     where
       bare : (h n : ℕ) → hazardOf (processOf d p) h .assigned ≡ suc n → ⊥
       bare h n a =
-          let e = every-at (λ y. eqb (y .assigned) 0) (processOf d p .hazards) h emptyHazard u refl in omega (arith, eqb-true)
+          let e = every-at _ (processOf d p .hazards) h emptyHazard u refl in omega (arith, eqb-true)
 
 -- ---- a Removed node is marked Retired: by T and E its claims have the facts of H and G
 pub marked-ok : (d : Domain) (s : Step) → Inv d → s .process < d .params .processes → inEpochs (here d s) ≡ true

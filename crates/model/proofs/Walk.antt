@@ -18,7 +18,7 @@ use Rattle.model.specs.Kinds.{Kind, is, means, rowOf, meets, Needed, Any
 use Rattle.model.specs.Kinds.{NodeId, Protect, Check, Use, Clear, Drain, Tick, Manage, Unknown}
 use Rattle.model.specs.Hazards.{here, pointer, target, young, unassigned}
 use Rattle.model.specs.Retire.{Effect, effect, scan, overfull, fallBack, reclaim}
-use Rattle.model.specs.Epochs.{caughtUp, adopt, quiescent, allPresent, calledBy, counted, manage}
+use Rattle.model.specs.Epochs.{caughtUp, adopt, quiescent, allCheckedIn, calledBy, counted, manage}
 use Rattle.model.specs.Questions.{Question, ask, firstNo, questions, refusalOf}
 use Rattle.model.specs.Machine.{Outcome, refused, accepted, act, stepAs}
 
@@ -136,15 +136,15 @@ by-quiescent P d p on' stay behind =
     by-cond P (caughtUp d) (on' (eqb-true _ _ e)) (stay (eqb-true _ _ e))) (λ e. behind (eqb-false _ _ e))
 
 pub by-manage : (P : Effect → Type 0) (d : Domain) (s : Step)
-    → (calledBy d s ≡ 0 → d .path ≡ Fallback → allPresent (counted d s 0 1) ≡ true
+    → (calledBy d s ≡ 0 → d .path ≡ Fallback → allCheckedIn (counted d s 0 1) ≡ true
     → P (quiescent (withPath (counted d s 0 1) Fast) (s .process)))
-    → (calledBy d s ≡ 0 → d .path ≡ Fallback → allPresent (counted d s 0 1) ≡ false → P (effect 0 (counted d s 0 1)))
+    → (calledBy d s ≡ 0 → d .path ≡ Fallback → allCheckedIn (counted d s 0 1) ≡ false → P (effect 0 (counted d s 0 1)))
     → (calledBy d s ≡ 0 → d .path ≢ Fallback → P (quiescent (counted d s 0 1) (s .process)))
     → (calledBy d s ≢ 0 → P (effect 0 (counted d s (calledBy d s) (here d s .presence))))
     → P (manage d s)
 by-manage P d s back wait fast idle =
     by-cond P (eqb (calledBy d s) 0) (λ c.
     by-cond P (eqb (d .path) Fallback) (λ e.
-    by-cond P (allPresent (counted d s 0 1)) (back (eqb-true _ _ c) (eqb-true _ _ e)) (wait (eqb-true _ _ c) (eqb-true _ _ e)))
+    by-cond P (allCheckedIn (counted d s 0 1)) (back (eqb-true _ _ c) (eqb-true _ _ e)) (wait (eqb-true _ _ c) (eqb-true _ _ e)))
     (λ e. fast (eqb-true _ _ c) (eqb-false _ _ e)))
     (λ c. idle (eqb-false _ _ c))

@@ -4,8 +4,9 @@ use Prim.Native.Nat.{ℕ}
 use mathlib.Core.List.{List, [], _∷_, _++_}
 use mathlib.Core.Path.{_≡_}
 use lib.ListN.{replicate}
-use Rattle.model.specs.Params.{Params, wordCount}
+use Rattle.model.specs.Params.{Params, InRange, wordCount}
 use Rattle.model.specs.State.{Domain, Step}
+use Rattle.model.specs.WellFormed.{WellFormed}
 use Rattle.model.specs.Machine.{step, run, fresh}
 use Rattle.model.specs.Cases.{Answer, gives, refuses, oks, answersBy, allocate, publish, protect, use'}
 use Rattle.model.specs.Cases.{clear, remove, retire, drain, tick, manage, turnover, params, store, hazard}
@@ -21,6 +22,11 @@ pub data Case : Type 0 where
 abbrev pub Holds : Case → Type 0
 Holds (Length a n) = wordCount a ≡ n
 Holds (Run d ss xs e) = (answersBy step d ss ≡ xs) × (run d ss ≡ e)
+
+-- no case is about a domain that every call would refuse with 3: parameters in range, a well-formed start
+abbrev pub StartsWell : Case → Type 0
+StartsWell (Length a n) = InRange a
+StartsWell (Run d ss xs e) = WellFormed d
 
 -- a clock that cannot go on, and a pending store that is 3 old
 abbrev pub stopped : Domain

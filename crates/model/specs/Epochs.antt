@@ -30,14 +30,14 @@ quiescent d p =
     (adopt d p)
 
 -- all presence words are 1
-abbrev pub allPresent : Domain → Bool
-allPresent d = every (λ x. implies (inPresence x) (eqb (x .presence) 1)) (d .processes)
+abbrev pub allCheckedIn : Domain → Bool
+allCheckedIn d = every (λ x. implies (inPresence x) (eqb (x .presence) 1)) (d .processes)
 
 -- a manage call that acts, presence being set
 abbrev pub managing : Domain → ℕ → Effect
 managing d p =
     cond (eqb (d .path) Fallback)
-    (cond (allPresent d) (quiescent (withPath d Fast) p) (effect 0 d))
+    (cond (allCheckedIn d) (quiescent (withPath d Fast) p) (effect 0 d))
     (quiescent d p)
 
 -- the call count after this call

@@ -15,16 +15,35 @@ pub record Params : Type 0 where
   -- C, cards: a process with so many Retired nodes leaves the fast path
   pub fallbackThreshold : ℕ
 
+-- the most of each (document 01); the least is 1
+abbrev pub mostProcesses : ℕ
+mostProcesses = 16
+
+abbrev pub mostHazards : ℕ
+mostHazards = 8
+
+abbrev pub mostNodes : ℕ
+mostNodes = 256
+
+abbrev pub mostTicks : ℕ
+mostTicks = 1000
+
+abbrev pub mostCalls : ℕ
+mostCalls = 1000
+
+abbrev pub mostRetired : ℕ
+mostRetired = 256
+
 abbrev pub Between : ℕ → ℕ → ℕ → Type 0
 Between low high n = (low ≤ n) × (n ≤ high)
 
 pub record InRange (a : Params) : Type 0 where
-  pub processes : Between 1 16 (a .processes)
-  pub hazards : Between 1 8 (a .hazards)
-  pub nodes : Between 1 256 (a .nodes)
-  pub visibilityBound : Between 1 1000 (a .visibilityBound)
-  pub quiescenceThreshold : Between 1 1000 (a .quiescenceThreshold)
-  pub fallbackThreshold : Between 1 256 (a .fallbackThreshold)
+  pub processes : Between 1 mostProcesses (a .processes)
+  pub hazards : Between 1 mostHazards (a .hazards)
+  pub nodes : Between 1 mostNodes (a .nodes)
+  pub visibilityBound : Between 1 mostTicks (a .visibilityBound)
+  pub quiescenceThreshold : Between 1 mostCalls (a .quiescenceThreshold)
+  pub fallbackThreshold : Between 1 mostRetired (a .fallbackThreshold)
 
 -- the most pending stores that a process's buffer holds (8 mail entries)
 abbrev pub bufferSize : ℕ
@@ -38,6 +57,26 @@ lastClock = 4294967295
 abbrev pub delay : Params → ℕ
 delay a = a .visibilityBound
 
--- the words of a domain
+-- ---- the words of a domain, by rows: the head; the lead of a process (its words before its hazards), a hazard, a pending store and the
+-- places of all stores; a node
+
+abbrev pub headWidth : ℕ
+headWidth = 9
+
+abbrev pub leadWidth : ℕ
+leadWidth = 4
+
+abbrev pub hazardWidth : ℕ
+hazardWidth = 3
+
+abbrev pub storeWidth : ℕ
+storeWidth = 3
+
+abbrev pub bufferWidth : ℕ
+bufferWidth = bufferSize * storeWidth
+
+abbrev pub nodeWidth : ℕ
+nodeWidth = 5
+
 abbrev pub wordCount : Params → ℕ
-wordCount a = 9 + a .processes * (28 + 3 * a .hazards) + 5 * a .nodes
+wordCount a = headWidth + a .processes * (leadWidth + bufferWidth + hazardWidth * a .hazards) + nodeWidth * a .nodes

@@ -151,9 +151,16 @@ inPresence x = true
 abbrev pub inEpochs : Process → Bool
 inEpochs x = true
 
+-- epochs go round: how many there are, and the last one
+abbrev pub epochCount : ℕ
+epochCount = 3
+
+abbrev pub lastEpoch : ℕ
+lastEpoch = 2
+
 -- the epoch after e
 abbrev pub nextEpoch : ℕ → ℕ
-nextEpoch e = (e + 1) % 3
+nextEpoch e = (e + 1) % epochCount
 
 -- all presence words 0
 abbrev pub absent : Process → Process

@@ -6,12 +6,13 @@ use lib.ListN.{length}
 use Rattle.lists.specs.Tests.{All}
 use Rattle.model.specs.Params.{Params, InRange, bufferSize, lastClock}
 use Rattle.model.specs.State.{Pending, Hazard, Process, Node, Domain, Free, Reachable, Retired}
+use Rattle.model.specs.State.{Fallback, lastEpoch}
 
 pub record NodeFits (a : Params) (clock : ℕ) (n : Node) : Type 0 where
-  pub state : n .state ≤ 4
+  pub state : n .state ≤ Retired
   pub owner : n .owner < a .processes
   pub retiredAt : n .retiredAt ≤ clock
-  pub limbo : n .limbo ≤ 2
+  pub limbo : n .limbo ≤ lastEpoch
   -- owner 0 in a Free or Reachable node, guest 0 in a Free one
   pub free : n .state ≡ Free → (n .owner ≡ 0) × (n .guest ≡ 0)
   pub reachable : n .state ≡ Reachable → n .owner ≡ 0
@@ -31,7 +32,7 @@ pub record PendingFits (a : Params) (clock : ℕ) (e : Pending) : Type 0 where
 
 -- of a process: its words, and its buffer and hazards
 pub record WordsFit (a : Params) (x : Process) : Type 0 where
-  pub epoch : x .epoch ≤ 2
+  pub epoch : x .epoch ≤ lastEpoch
   pub calls : x .calls < a .quiescenceThreshold
   pub presence : x .presence ≤ 1
 
@@ -48,8 +49,8 @@ pub record ProcessFits (a : Params) (clock : ℕ) (x : Process) : Type 0 where
 pub record WellFormed (d : Domain) : Type 0 where
   pub params : InRange (d .params)
   pub clock : d .clock ≤ lastClock
-  pub path : d .path ≤ 1
-  pub epoch : d .epoch ≤ 2
+  pub path : d .path ≤ Fallback
+  pub epoch : d .epoch ≤ lastEpoch
   pub processCount : length (d .processes) ≡ d .params .processes
   pub nodeCount : length (d .nodes) ≡ d .params .nodes
   pub processes : All (ProcessFits (d .params) (d .clock)) (d .processes)

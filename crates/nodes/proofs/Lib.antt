@@ -1,1 +1,4 @@
-pub mod Part
+pub mod Words
+pub mod Counting
+pub mod Sweeping
+pub mod ByState

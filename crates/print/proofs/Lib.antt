@@ -1,1 +1,3 @@
-pub mod Line
+pub mod FoundOrRefused
+pub mod Refused
+pub mod AtTheEdge

@@ -1,1 +1,3 @@
-pub mod Lines
+-- What the contracts of `print` cite.
+pub mod Printed
+pub mod Cases

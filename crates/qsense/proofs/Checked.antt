@@ -12,9 +12,15 @@ use Rattle.layout.specs.Encode.{decode}
 use Rattle.layout.specs.Words.{wellFormed}
 use Rattle.layout.specs.Sound.{Sound}
 use Rattle.layout.proofs.Checked.{well-formed-sound, sound-well-formed}
-use Rattle.steps.specs.Stepped.{Stepped}
+use Rattle.steps.specs.Stepped as Sound
 use Rattle.qsense.specs.Calls.{Reply, refusing, stepWords, reachableWords}
-use Rattle.qsense.specs.Values.{pairReply}
+use Rattle.qsense.specs.Values.{wordRange, pairReply, Stepped}
+
+-- an answer of two words that is one number
+paired : (r v n : ℕ) (ws : List ℕ) → n ≡ r + v * wordRange → r < wordRange → pairReply n ws ≡ record { refusal = r; value = v; words = ws }
+paired r v n ws e h =
+    let f : n ≡ v * wordRange + r = omega arith in
+    rw f (λ t. record { refusal = digits-mod v h t; value = digits-div v h t; words = ws })
 
 module _ (ws : List ℕ) (b : Bool) (e : b ≡ wellFormed ws) where
   pub checked : b ≡ true → Sound ws
@@ -28,11 +34,11 @@ module _ (ws : List ℕ) (b : Bool) (e : b ≡ wellFormed ws) where
   unfolding reachableWords
   counted t n q = rw (← e, t, q)
 
-  pub step-refused : (s : Step) → b ≡ false → (refusing 3 ws ≡ stepWords ws s) × (b ≡ wellFormed ws)
+  pub step-refused : (s : Step) → b ≡ false → Stepped b s ws 3 ws
   unfolding stepWords
-  step-refused s t = (rw (← e, t), e)
+  step-refused s t = record { reply = rw (← e, t); good = e }
 
-  pub step-taken : (s : Step) → b ≡ true → (r v : ℕ) (ws' : List ℕ) → Stepped (step (decode ws) s) r v ws'
+  pub step-taken : (s : Step) → b ≡ true → (r v : ℕ) (ws' : List ℕ) → Sound.Stepped (step (decode ws) s) r v ws'
       → (record { refusal = r; value = v; words = ws' } ≡ stepWords ws s) × (b ≡ wellFormed ws')
   unfolding stepWords
   step-taken s t r v ws' h = (
@@ -40,12 +46,14 @@ module _ (ws : List ℕ) (b : Bool) (e : b ≡ wellFormed ws) where
     t ∙ sym (sound-well-formed (h .sound)),
   )
 
--- an answer of two words that is one number
-pub paired : (r v n : ℕ) (ws : List ℕ) → n ≡ r + v * 4294967296 → r < 4294967296 → pairReply n ws ≡ record { refusal = r; value = v; words = ws }
-paired r v n ws e h =
-    let f : n ≡ v * 4294967296 + r = omega arith in
-    rw f (λ t. record { refusal = digits-mod v h t; value = digits-div v h t; words = ws })
+  -- the same of an answer that is one number
+  pub step-paired : (s : Step) → b ≡ true → (r v n : ℕ) (ws' : List ℕ) → Sound.Stepped (step (decode ws) s) r v ws'
+      → n ≡ r + v * wordRange → r < wordRange → Stepped b s ws n ws'
+  step-paired s t r v n ws' h p l =
+      let x = step-taken s t r v ws' h in
+      record { reply = paired r v n ws' p l ∙ x .0; good = x .1 }
 
-pub unpaired : (n : ℕ) {r v : ℕ} {ws : List ℕ} {x : Reply} → r ≡ n % 4294967296 → v ≡ n / 4294967296 → pairReply n ws ≡ x
+-- and back, by its two words
+pub unpaired : (n : ℕ) {r v : ℕ} {ws : List ℕ} {x : Reply} → r ≡ n % wordRange → v ≡ n / wordRange → pairReply n ws ≡ x
     → record { refusal = r; value = v; words = ws } ≡ x
 unpaired n {ws = ws} p q e = (λ t. record { refusal = p t; value = q t; words = ws }) ∙ e

@@ -27,7 +27,7 @@ use Rattle.qsense.specs.Calls.{Reply, throughWords, stepWords, runWords}
 use Rattle.qsense.specs.Demands.{outcomeOf}
 use Rattle.qsense.specs.Impostors.{Call, Program, call, right, callsFrom, turned, freedBefore, onlySays}
 use Rattle.qsense.specs.Impostors.{FreesOnce, NoStores, least, guarded, sixth, once, twice, Excluded}
-use Rattle.qsense.proofs.Through.{step-through, run-through, run-well-formed}
+use Rattle.qsense.proofs.ModelOnWords.{step-through, run-through, run-well-formed}
 use Rattle.qsense.proofs.Theorems.{freed-are-counted, refused-for-stores}
 
 -- ---- the right reply after a run, as the model gives it

@@ -1,7 +1,7 @@
-pub mod Through
+pub mod ModelOnWords
 pub mod Made
-pub mod Carry
-pub mod Stores
+pub mod Demand3OnWords
+pub mod RefusedForStores
 pub mod Theorems
 pub mod Excluded
 pub mod Checked

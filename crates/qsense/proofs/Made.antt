@@ -9,8 +9,8 @@ use Rattle.lists.proofs.Bools.{by-cond}
 use Rattle.model.specs.Params.{Params, InRange, wordCount}
 use Rattle.model.specs.Machine.{fresh}
 use Rattle.layout.specs.Encode.{encode}
-use Rattle.fresh.specs.Ranges.{inRange}
-use Rattle.fresh.proofs.Ranges.{in-range}
+use Rattle.layout.specs.Ranges.{inRange}
+use Rattle.layout.proofs.Ranges.{in-range}
 use Rattle.qsense.specs.Calls.{Reply, makeWords}
 
 pub record Made (a : Params) (r : Reply) : Type 0 where

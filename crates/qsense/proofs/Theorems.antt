@@ -1,7 +1,7 @@
 -- Each demand of specs/Demands.antt, with its proof. Assumes nothing.
 use Prim.Native.Nat.{ℕ, _+_, _≤_}
-use mathlib.Core.Bool.{true, false}
-use mathlib.Core.List.{List}
+use mathlib.Core.Bool.{Bool, true, false, cond}
+use mathlib.Core.List.{List, [], _∷_}
 use mathlib.Core.Path.{_≡_, refl, sym, ap, _∙_, subst}
 use mathlib.Core.Logic.{_≢_}
 use native.Mathlib.Omega.{arith}
@@ -10,29 +10,37 @@ use lib.Dec.{eqb}
 use borrow.Author.Tests.{eqb-true, eqb-false}
 use Rattle.lists.specs.Tests.{every}
 use Rattle.lists.proofs.Bools.{by-cond}
-use Rattle.model.specs.Params.{Params, bufferSize}
+use Rattle.model.specs.Params.{Params, bufferSize, wordCount}
 use Rattle.model.specs.State.{Domain, Step}
 use Rattle.model.specs.WellFormed.{WellFormed}
 use Rattle.model.specs.Kinds.{kindOf}
 use Rattle.model.specs.Hazards.{here, young}
-use Rattle.model.specs.Questions.{refusalOf}
+use Rattle.model.specs.Questions as Q
+use Rattle.model.specs.Questions.{ask, firstNo, questions}
 use Rattle.model.specs.Retire.{Effect}
 use Rattle.model.specs.Machine.{Outcome, answered, act, step, run, fresh}
 use Rattle.model.specs.Reference.{initial}
-use Rattle.model.specs.Claims.{noHistory, turnedFree, freedCount}
+use Rattle.model.specs.Claims.{noHistory, turnedFree, freedCount, reachableCount}
 use Rattle.model.proofs.Theorems as Model
 use Rattle.model.proofs.Freed.{none-turned}
 use Rattle.layout.specs.Encode.{encode, decode}
 use Rattle.layout.specs.Words.{wellFormed}
 use Rattle.layout.proofs.Sound.{decoded}
 use Rattle.layout.proofs.Checked.{well-formed-sound}
-use Rattle.qsense.specs.Calls.{Reply, refusing, throughWords, stepWords, reachableWords, runWords}
-use Rattle.qsense.specs.Demands.{Demand1, Demand2, FreedAreCountedWords, RefusedForStores, Demand3Words}
+use Rattle.layout.specs.Ranges.{inRange}
+use Rattle.trace.specs.Trace as T
+use Rattle.trace.specs.Trace.{Reading, refused, given, Front, frontAt, frontOf, traceAt, traceOf, trailerRight, paramsOf, questioned}
+use Rattle.trace.specs.Values.{openedValue, refusalOf}
+use Rattle.trace.specs.declared.Opened.{Opened}
+use Rattle.trace.specs.declared.Opened.the-variants.{Found, TooLong, NoTrailer, OutOfRange}
+use Rattle.qsense.specs.Calls.{Reply, refusing, throughWords, makeWords, stepWords, reachableWords, runWords}
+use Rattle.qsense.specs.Demands.{short, Refuses, Declines, Demand1}
+use Rattle.qsense.specs.Demands.{Demand2, FreedAreCountedWords, RefusedForStores, Demand3Words}
 use Rattle.qsense.specs.Demands.{acceptedIn, outcomeOf, FollowsWords}
-use Rattle.qsense.proofs.Through.{run-through, run-well-formed, counted, panel-through, accepted-through}
+use Rattle.qsense.proofs.ModelOnWords.{run-through, run-well-formed, counted, panel-through, accepted-through}
 use Rattle.qsense.proofs.Made.{made}
-use Rattle.qsense.proofs.Carry.{follows-words}
-use Rattle.qsense.proofs.Stores.{full, old}
+use Rattle.qsense.proofs.Demand3OnWords.{follows-words}
+use Rattle.qsense.proofs.RefusedForStores.{full, old}
 
 -- ---- Demand 1
 
@@ -40,7 +48,7 @@ use Rattle.qsense.proofs.Stores.{full, old}
 refusal-is : (r : ℕ) (d : Domain) (e : Effect) → answered r d e .refusal ≡ r
 refusal-is r d e = by-cond (λ (o : Outcome). o .refusal ≡ r) (eqb r 0) (λ h. sym (eqb-true r 0 h)) (λ _. refl)
 
-step-refusal : (d : Domain) (s : Step) → step d s .refusal ≡ refusalOf (kindOf (s .kind)) d s
+step-refusal : (d : Domain) (s : Step) → step d s .refusal ≡ Q.refusalOf (kindOf (s .kind)) d s
 unfolding step
 step-refusal d s = refusal-is _ d (act (kindOf (s .kind)) d s)
 
@@ -51,13 +59,64 @@ refused-words ws s e no' =
     let same : encode (step (decode ws) s .after) ≡ ws = ap (λ (d : Domain). encode d) (u .1) ∙ sym (well-formed-sound ws e .whole) in
     λ t. record { refusal = step (decode ws) s .refusal; value = u .0 t; words = same t }
 
+-- of a call with one answer to each question
+make-refuses : (ws ws' : List ℕ) (b c : Bool)
+    → Refuses (ask 1 b ∷ ask 2 c ∷ []) ws
+    (cond b (cond c (record { refusal = 0; value = 0; words = ws' }) (refusing 2 ws)) (refusing 1 ws))
+make-refuses ws ws' true true = record { number = refl; unchanged = λ no'. absurd (no' refl) }
+make-refuses ws ws' true false = record { number = refl; unchanged = λ _. refl }
+make-refuses ws ws' false c = record { number = refl; unchanged = λ _. refl }
+
+reachable-refuses : (ws : List ℕ) (n : ℕ) (b : Bool)
+    → Refuses (ask 3 b ∷ []) ws (cond b (record { refusal = 0; value = n; words = ws }) (refusing 3 ws))
+reachable-refuses ws n true = record { number = refl; unchanged = λ no'. absurd (no' refl) }
+reachable-refuses ws n false = record { number = refl; unchanged = λ _. refl }
+
+step-refuses : (ws : List ℕ) (s : Step) (b : Bool) → wellFormed ws ≡ b
+    → Refuses (ask 3 b ∷ questions (kindOf (s .kind)) (decode ws) s) ws (cond b (throughWords (step (decode ws) s)) (refusing 3 ws))
+step-refuses ws s true e =
+    let n = step-refusal (decode ws) s in
+    record {
+      number = n;
+      unchanged = λ no'. refused-words ws s e (λ z. no' (sym n ∙ z)) ∙ ap (λ (k : ℕ). refusing k ws) n;
+    }
+step-refuses ws s false e = record { number = refl; unchanged = λ _. refl }
+
+trace-declines : {A : Type 0} (x : A) (l t r : Bool)
+    → Declines (ask 18 l ∷ ask 19 t ∷ ask 1 r ∷ []) (T.ask l 18 (T.ask t 19 (T.ask r 1 (given x))))
+trace-declines x true true true = record { refuses = λ no'. absurd (no' refl); gives = λ _. (x, refl) }
+trace-declines x false t r = record { refuses = λ _. refl; gives = λ e. absurd (omega arith) }
+trace-declines x true false r = record { refuses = λ _. refl; gives = λ e. absurd (omega arith) }
+trace-declines x true true false = record { refuses = λ _. refl; gives = λ e. absurd (omega arith) }
+
+-- the number of a reading, 0 for one that is given
+abbrev numberIn : Reading Front → ℕ
+numberIn (refused n) = n
+numberIn (given f) = 0
+
+number-asked : (f : Front) (l t r : Bool)
+    → numberIn (T.ask l 18 (T.ask t 19 (T.ask r 1 (given f)))) ≡ firstNo (ask 18 l ∷ ask 19 t ∷ ask 1 r ∷ [])
+number-asked f true true true = refl
+number-asked f false t r = refl
+number-asked f true false r = refl
+number-asked f true true false = refl
+
+number-opened : (o : Opened) → refusalOf o ≡ numberIn (openedValue o)
+number-opened (Found h) = refl
+number-opened TooLong = refl
+number-opened NoTrailer = refl
+number-opened OutOfRange = refl
+
 pub demand-1 : Demand1
-unfolding stepWords
-demand-1 ws s = (
-  (λ e. rw e),
-  (λ e. rw e (step-refusal (decode ws) s)),
-  by-cond (λ r. r .refusal ≢ 0 → r ≡ refusing (r .refusal) ws) (wellFormed ws) (refused-words ws s) (λ _ _. refl),
-)
+unfolding makeWords reachableWords stepWords traceOf frontOf questioned
+demand-1 = record {
+  make = λ ws a. make-refuses ws (encode (fresh a)) (inRange a) (eqb (length ws) (wordCount a));
+  reachable = λ ws. reachable-refuses ws (reachableCount (decode ws)) (wellFormed ws);
+  step = λ ws s. step-refuses ws s (wellFormed ws) refl;
+  trace = λ bs. trace-declines (traceAt bs) (short bs) (trailerRight bs) (inRange (paramsOf bs));
+  opened = λ bs o e. number-opened o ∙ ap numberIn e
+      ∙ number-asked (frontAt bs) (short bs) (trailerRight bs) (inRange (paramsOf bs));
+}
 
 -- ---- Demand 2
 

@@ -10,7 +10,7 @@ use Rattle.model.specs.Machine.{Outcome, step, fresh}
 use Rattle.model.specs.Claims.{reachableCount}
 use Rattle.layout.specs.Encode.{encode, decode}
 use Rattle.layout.specs.Words.{wellFormed}
-use Rattle.fresh.specs.Ranges.{inRange}
+use Rattle.layout.specs.Ranges.{inRange}
 
 -- an answer, and the words after the call
 pub record Reply : Type 0 where

@@ -1,33 +1,66 @@
 -- The user's demands, of the calls on words. The run starts from what `make` leaves on any slice that it accepts; each step has five
 -- arbitrary numbers and gets the words as the last one left them. Theorems: proofs/Theorems.antt. Assumes nothing.
 use Prim.Native.Nat.{ℕ, _+_, _≤_}
-use mathlib.Core.Bool.{true, false}
+use mathlib.Core.Bool.{Bool, false}
 use mathlib.Core.List.{List, [], _∷_}
 use mathlib.Core.Path.{_≡_}
 use mathlib.Core.Logic.{_≢_}
 use lib.ListN.{length}
+use lib.Dec.{leb, eqb}
 use Rattle.lists.specs.Tests.{every}
-use Rattle.model.specs.Params.{Params, bufferSize}
+use Rattle.model.specs.Params.{Params, bufferSize, wordCount}
 use Rattle.model.specs.State.{Step}
 use Rattle.model.specs.Kinds.{kindOf}
 use Rattle.model.specs.Hazards.{here, young}
-use Rattle.model.specs.Questions.{refusalOf}
+use Rattle.model.specs.Questions.{Question, ask, firstNo, questions}
 use Rattle.model.specs.Machine.{Outcome}
 use Rattle.model.specs.Reference.{Reference, initial, freeEach}
 use Rattle.model.specs.Claims.{acceptedAs, turnedFree, freedCount, Matches, Bounded, History, noHistory, recorded}
 use Rattle.model.specs.Claims.{led}
 use Rattle.layout.specs.Encode.{decode}
 use Rattle.layout.specs.Words.{wellFormed}
+use Rattle.layout.specs.Ranges.{inRange}
+use Rattle.trace.specs.Widths.{mostBytes}
+use Rattle.trace.specs.Trace.{Reading, refused, given, trailerRight, paramsOf, frontOf, traceOf}
+use Rattle.trace.specs.Values.{openedValue, refusalOf}
+use Rattle.trace.specs.declared.Opened.{Opened}
 use Rattle.qsense.specs.Calls.{Reply, refusing, makeWords, stepWords, reachableWords, runWords}
 
 -- ---- Demand 1: the number of the first question with the answer no, in the paper's order; value 0, the same words
 
-abbrev pub Demand1 : Type 0
-Demand1 =
-    (ws : List ℕ) (s : Step)
-    → (wellFormed ws ≡ false → stepWords ws s ≡ refusing 3 ws)
-    × (wellFormed ws ≡ true → stepWords ws s .refusal ≡ refusalOf (kindOf (s .kind)) (decode ws) s)
-    × (stepWords ws s .refusal ≢ 0 → stepWords ws s ≡ refusing (stepWords ws s .refusal) ws)
+-- what is asked before a domain is made, before the reachable count (the panel), before a step, and of a trace (the book)
+abbrev pub makeQuestions : List ℕ → Params → List Question
+makeQuestions ws a = ask 1 (inRange a) ∷ ask 2 (eqb (length ws) (wordCount a)) ∷ []
+
+abbrev pub reachableQuestions : List ℕ → List Question
+reachableQuestions ws = ask 3 (wellFormed ws) ∷ []
+
+abbrev pub stepQuestions : List ℕ → Step → List Question
+stepQuestions ws s = ask 3 (wellFormed ws) ∷ questions (kindOf (s .kind)) (decode ws) s
+
+abbrev pub short : List ℕ → Bool
+short bs = leb (length bs) mostBytes
+
+abbrev pub traceQuestions : List ℕ → List Question
+traceQuestions bs = ask 18 (short bs) ∷ ask 19 (trailerRight bs) ∷ ask 1 (inRange (paramsOf bs)) ∷ []
+
+-- a call on words ws before which qs were asked
+pub record Refuses (qs : List Question) (ws : List ℕ) (r : Reply) : Type 0 where
+  pub number : r .refusal ≡ firstNo qs
+  pub unchanged : firstNo qs ≢ 0 → r ≡ refusing (firstNo qs) ws
+
+-- the reading of a trace of which qs were asked: it is refused, with nothing read, or given
+pub record Declines {A : Type 0} (qs : List Question) (r : Reading A) : Type 0 where
+  pub refuses : firstNo qs ≢ 0 → r ≡ refused (firstNo qs)
+  pub gives : firstNo qs ≡ 0 → (x : A) × (r ≡ given x)
+
+pub record Demand1 : Type 0 where
+  pub make : (ws : List ℕ) (a : Params) → Refuses (makeQuestions ws a) ws (makeWords ws a)
+  pub reachable : (ws : List ℕ) → Refuses (reachableQuestions ws) ws (reachableWords ws)
+  pub step : (ws : List ℕ) (s : Step) → Refuses (stepQuestions ws s) ws (stepWords ws s)
+  pub trace : (bs : List ℕ) → Declines (traceQuestions bs) (traceOf bs)
+  -- the number that the code answers for what comes of opening one
+  pub opened : (bs : List ℕ) (o : Opened) → openedValue o ≡ frontOf bs → refusalOf o ≡ firstNo (traceQuestions bs)
 
 -- ---- Demand 2: after any run the panel call itself answers 0 and accepted publishes less accepted removes
 

@@ -6,10 +6,10 @@ use layout::ProcessId;
 ghost use mathlib.Core.Path.{_≡_};
 ghost use Rattle.layout.specs.Values.{paramsValue};
 ghost use Rattle.layout.specs.Words.{wellFormed};
-ghost use Rattle.fresh.specs.Ranges.{lengthFor};
+ghost use Rattle.layout.specs.Ranges.{lengthFor};
 ghost use Rattle.qsense.specs.Calls.{makeWords, reachableWords, stepWords};
 ghost use Rattle.domain.specs.Effects.{given};
-ghost use Rattle.qsense.specs.Values.{replyOf, pairReply};
+ghost use Rattle.qsense.specs.Values.{replyOf, Stepped};
 
 // refusal: the number of the first question with the answer no, 0 for accepted.
 pub struct Answer {
@@ -22,19 +22,21 @@ pub struct Answer {
 pub fn make(words: &mut [u32], params: Params) -> Answer
     ensures { λ r. ⌜ replyOf r (now (words .exit)) ≡ makeWords (now (words .entry)) (paramsValue params) ⌝ }
 {
-    if !fresh::in_range(params) {
+    if !layout::fresh::in_range(params) {
         return Answer {
             refusal: 1,
             value: 0,
         };
     }
-    if words.len() != layout::wide(fresh::length(params.processes, params.hazards, params.nodes)) {
+    if words.len()
+        != layout::wide(layout::fresh::length(params.processes, params.hazards, params.nodes))
+    {
         return Answer {
             refusal: 2,
             value: 0,
         };
     }
-    fresh::write_fresh(words, params);
+    layout::fresh::write_fresh(words, params);
     Answer {
         refusal: 0,
         value: 0,
@@ -45,7 +47,7 @@ pub fn make(words: &mut [u32], params: Params) -> Answer
 pub fn length(n: u32, k: u32, m: u32) -> u32
     ensures { λ r. ⌜ r ≡ lengthFor n k m ⌝ }
 {
-    fresh::length(n, k, m)
+    layout::fresh::length(n, k, m)
 }
 
 // How many nodes are Reachable. Refused with 3 unless the words are those of a well-formed domain.
@@ -76,7 +78,7 @@ pub fn step_checked(
     guest: u32,
 ) -> usize
     requires { ⌜ good ≡ wellFormed (now words) ⌝ }
-    ensures { λ r. ⌜ (pairReply r (now (words .exit)) ≡ stepWords (now (words .entry)) (given kind (process .0) (hazard .0) (node .0) guest)) × (good ≡ wellFormed (now (words .exit))) ⌝ }
+    ensures { λ r. ⌜ Stepped good (given kind (process .0) (hazard .0) (node .0) guest) (now (words .entry)) r (now (words .exit)) ⌝ }
 {
     if !good {
         return 3;

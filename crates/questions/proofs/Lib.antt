@@ -1,3 +1,3 @@
-pub mod Answers
-pub mod OwnQuestions
-pub mod Refusals
+pub mod PastLast
+pub mod AskedOf
+pub mod Accepted

@@ -1,1 +1,2 @@
-pub mod Own
+pub mod Answers
+pub mod Acted

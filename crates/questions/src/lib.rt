@@ -1,136 +1,193 @@
 // The questions before a step, numbers 4 to 17 in the paper's order: the number of the first with the answer no, 0 where there is none.
-use kinds::Row;
+// A question that a kind is not asked has the answer yes and reads nothing, so that with the kind as a literal only its own are left.
+pub mod read;
+
 use layout::HazardId;
 use layout::NodeId;
 use layout::ProcessId;
+use layout::words::most;
+use layout::words::states;
 ghost use mathlib.Core.Path.{_≡_};
-ghost use mathlib.Core.Bool.{not, cond};
-ghost use Prim.Native.Nat.{ℕ, _<_};
-ghost use lib.ListN.{length};
-ghost use lib.Dec.{ltb, eqb};
-ghost use Rattle.lists.specs.Tests.{every};
-ghost use Rattle.model.specs.Params.{bufferSize, lastClock};
-ghost use Rattle.model.specs.State.{nodeOf, processOf, hazardOf, Reachable};
-ghost use Rattle.model.specs.Kinds.{Kind, kindOf};
-ghost use Rattle.model.specs.Hazards.{pointer, target, young, unassigned};
+ghost use Rattle.model.specs.Kinds.{kindOf};
 ghost use Rattle.model.specs.Questions.{refusalOf};
-ghost use Rattle.layout.specs.Shape.{word};
 ghost use Rattle.layout.specs.Encode.{decode};
 ghost use Rattle.layout.specs.Sound.{Sound};
-ghost use Rattle.kinds.specs.Table.{rowCode, held};
 ghost use Rattle.domain.specs.Effects.{given};
-ghost use Rattle.questions.specs.Own.{stepOf, own, Bounded};
+ghost use Rattle.questions.specs.Answers.{answerTo, asked};
 
-// 0 for a yes, the question's number for a no.
-fn unless(yes: bool, number: u32) -> u32
-    ensures { λ r. ⌜ r ≡ cond yes 0 number ⌝ }
-{
-    if yes { 0 } else { number }
-}
-
-// Questions 8 and 9, of the node that a step names; a node past the last is as one that is Free.
-fn node_questions(words: &[u32], row: Row, p: ProcessId, c: NodeId) -> u32
+// 5: is the process one of the domain's?
+fn process_in_range(words: &[u32], kind: u32, p: ProcessId) -> bool
     requires { ⌜ Sound (now words) ⌝ }
-    ensures { λ r. ⌜ ((k : Kind) → row ≡ rowCode k → r ≡ held k (nodeOf (decode (now (words .entry))) (c .0) .state) (nodeOf (decode (now (words .entry))) (c .0) .owner) (p .0)) ⌝ }
+    ensures { λ r. ⌜ r ≡ answerTo 5 (asked kind (now (words .entry)) (p .0) 0 0) ⌝ }
 {
-    if domain::bounds(words).nodes <= c.0 {
-        return kinds::held(row, 0, 0, p);
-    }
-    let x = domain::node(words, c);
-    kinds::held(row, x.state, x.owner, p)
+    let row = kinds::row_of(kind);
+    (row.0 != kinds::PROCESS) | (p.0 < domain::bounds(words).processes)
 }
 
-// Question 13: is there room in the buffer?
-fn room(words: &[u32], p: ProcessId) -> u32
-    requires { ⌜ Sound (now words) × (p .0 < word (now words) 0) ⌝ }
-    ensures { λ r. ⌜ r ≡ cond (ltb (length (processOf (decode (now (words .entry))) (p .0) .buffer)) bufferSize) 0 13 ⌝ }
-{
-    let l = process::lead(words, p);
-    unless(l.stores < 8, 13)
-}
-
-// Question 14: is a store pending?
-fn some_store(words: &[u32], p: ProcessId) -> u32
-    requires { ⌜ Sound (now words) × (p .0 < word (now words) 0) ⌝ }
-    ensures { λ r. ⌜ r ≡ cond (not (eqb (length (processOf (decode (now (words .entry))) (p .0) .buffer)) 0)) 0 14 ⌝ }
-{
-    let l = process::lead(words, p);
-    unless(l.stores != 0, 14)
-}
-
-// Questions 10 and 11: has the hazard a node assigned, and is that Reachable?
-fn checkable(words: &[u32], p: ProcessId, h: HazardId) -> u32
-    requires { ⌜ Sound (now words) × (p .0 < word (now words) 0) × (h .0 < word (now words) 1) ⌝ }
-    ensures { λ r. ⌜ r ≡ cond (not (eqb (pointer (decode (now (words .entry))) (stepOf (p .0) (h .0)) .assigned) 0)) (cond (eqb (target (decode (now (words .entry))) (stepOf (p .0) (h .0)) .state) Reachable) 0 11) 10 ⌝ }
-{
-    let y = process::hazard(words, p, h);
-    let node = y.assigned;
-    if node == 0 {
-        return 10;
-    }
-    let x = domain::node(words, NodeId(node - 1));
-    unless(x.state == 2, 11)
-}
-
-// Question 12: is the hazard validated?
-fn usable(words: &[u32], p: ProcessId, h: HazardId) -> u32
-    requires { ⌜ Sound (now words) × (p .0 < word (now words) 0) × (h .0 < word (now words) 1) ⌝ }
-    ensures { λ r. ⌜ r ≡ cond (eqb (hazardOf (processOf (decode (now (words .entry))) (p .0)) (h .0) .validated) 1) 0 12 ⌝ }
-{
-    let y = process::hazard(words, p, h);
-    unless(y.validated == 1, 12)
-}
-
-// Question 17: has no hazard of the process a node assigned?
-fn idle(words: &[u32], p: ProcessId) -> u32
-    requires { ⌜ Sound (now words) × (p .0 < word (now words) 0) ⌝ }
-    ensures { λ r. ⌜ r ≡ cond (unassigned (processOf (decode (now (words .entry))) (p .0))) 0 17 ⌝ }
-{
-    unless(process::unassigned(words, p), 17)
-}
-
-// Questions 15 and 16: can the clock go on, and is every pending store younger than the delay?
-fn tickable(words: &[u32]) -> u32
+// 6: is the hazard one of a process's?
+fn hazard_in_range(words: &[u32], kind: u32, h: HazardId) -> bool
     requires { ⌜ Sound (now words) ⌝ }
-    ensures { λ r. ⌜ r ≡ cond (ltb (decode (now (words .entry)) .clock) lastClock) (cond (every (young (decode (now (words .entry)))) (decode (now (words .entry)) .processes)) 0 16) 15 ⌝ }
+    ensures { λ r. ⌜ r ≡ answerTo 6 (asked kind (now (words .entry)) 0 (h .0) 0) ⌝ }
 {
-    let clock = domain::clock(words);
-    if 4294967295 <= clock {
-        return 15;
-    }
-    unless(processes::all_young(words), 16)
+    let row = kinds::row_of(kind);
+    (row.1 != kinds::HAZARD) | (h.0 < domain::bounds(words).hazards)
 }
 
-// Questions 10 to 17, each of the kinds that it is about.
-fn own(words: &[u32], kind: u32, p: ProcessId, h: HazardId) -> u32
-    requires { ⌜ Sound (now words) × Bounded (kindOf kind) (word (now words) 0) (word (now words) 1) (p .0) (h .0) ⌝ }
-    ensures { λ r. ⌜ r ≡ own (kindOf kind) (decode (now (words .entry))) (stepOf (p .0) (h .0)) ⌝ }
+// 7: is the node one of the domain's?
+fn node_in_range(words: &[u32], kind: u32, c: NodeId) -> bool
+    requires { ⌜ Sound (now words) ⌝ }
+    ensures { λ r. ⌜ r ≡ answerTo 7 (asked kind (now (words .entry)) 0 0 (c .0)) ⌝ }
 {
-    match kind {
-        3 => room(words, p),
-        4 => checkable(words, p, h),
-        5 => usable(words, p, h),
-        6 => room(words, p),
-        9 => some_store(words, p),
-        11 => tickable(words),
-        12 => idle(words, p),
-        _ => 0,
+    let row = kinds::row_of(kind);
+    (row.2 != kinds::NODE) | (c.0 < domain::bounds(words).nodes)
+}
+
+// 8: is the node in the state that the kind needs?
+fn state_met(words: &[u32], kind: u32, c: NodeId) -> bool
+    requires { ⌜ Sound (now words) ⌝ }
+    ensures { λ r. ⌜ r ≡ answerTo 8 (asked kind (now (words .entry)) 0 0 (c .0)) ⌝ }
+{
+    let row = kinds::row_of(kind);
+    if row.3 == kinds::ANY {
+        return true;
     }
+    read::node(words, c).state == row.3
+}
+
+// 9: does the process own the node?
+fn owned(words: &[u32], kind: u32, p: ProcessId, c: NodeId) -> bool
+    requires { ⌜ Sound (now words) ⌝ }
+    ensures { λ r. ⌜ r ≡ answerTo 9 (asked kind (now (words .entry)) (p .0) 0 (c .0)) ⌝ }
+{
+    let row = kinds::row_of(kind);
+    if !row.4 {
+        return true;
+    }
+    read::node(words, c).owner == p.0
+}
+
+// 10: has the hazard a node assigned?
+fn assigned(words: &[u32], kind: u32, p: ProcessId, h: HazardId) -> bool
+    requires { ⌜ Sound (now words) ⌝ }
+    ensures { λ r. ⌜ r ≡ answerTo 10 (asked kind (now (words .entry)) (p .0) (h .0) 0) ⌝ }
+{
+    if kind != kinds::CHECK {
+        return true;
+    }
+    read::hazard(words, p, h).assigned != 0
+}
+
+// 11: is that node Reachable?
+fn reachable(words: &[u32], kind: u32, p: ProcessId, h: HazardId) -> bool
+    requires { ⌜ Sound (now words) ⌝ }
+    ensures { λ r. ⌜ r ≡ answerTo 11 (asked kind (now (words .entry)) (p .0) (h .0) 0) ⌝ }
+{
+    if kind != kinds::CHECK {
+        return true;
+    }
+    read::hazard_node(words, p, h).state == states::REACHABLE
+}
+
+// 12: is the hazard validated?
+fn validated(words: &[u32], kind: u32, p: ProcessId, h: HazardId) -> bool
+    requires { ⌜ Sound (now words) ⌝ }
+    ensures { λ r. ⌜ r ≡ answerTo 12 (asked kind (now (words .entry)) (p .0) (h .0) 0) ⌝ }
+{
+    if kind != kinds::USE {
+        return true;
+    }
+    read::hazard(words, p, h).validated == 1
+}
+
+// 13: is there room in the buffer?
+fn room(words: &[u32], kind: u32, p: ProcessId) -> bool
+    requires { ⌜ Sound (now words) ⌝ }
+    ensures { λ r. ⌜ r ≡ answerTo 13 (asked kind (now (words .entry)) (p .0) 0 0) ⌝ }
+{
+    if (kind != kinds::PROTECT) & (kind != kinds::CLEAR) {
+        return true;
+    }
+    read::lead(words, p).stores < most::STORES
+}
+
+// 14: is a store pending?
+fn store_pending(words: &[u32], kind: u32, p: ProcessId) -> bool
+    requires { ⌜ Sound (now words) ⌝ }
+    ensures { λ r. ⌜ r ≡ answerTo 14 (asked kind (now (words .entry)) (p .0) 0 0) ⌝ }
+{
+    if kind != kinds::DRAIN {
+        return true;
+    }
+    read::lead(words, p).stores != 0
+}
+
+// 15: can the clock go on?
+fn clock_goes_on(words: &[u32], kind: u32) -> bool
+    requires { ⌜ Sound (now words) ⌝ }
+    ensures { λ r. ⌜ r ≡ answerTo 15 (asked kind (now (words .entry)) 0 0 0) ⌝ }
+{
+    if kind != kinds::TICK {
+        return true;
+    }
+    domain::clock(words) < most::CLOCK
+}
+
+// 16: is every pending store younger than the delay?
+fn stores_young(words: &[u32], kind: u32) -> bool
+    requires { ⌜ Sound (now words) ⌝ }
+    ensures { λ r. ⌜ r ≡ answerTo 16 (asked kind (now (words .entry)) 0 0 0) ⌝ }
+{
+    if kind != kinds::TICK {
+        return true;
+    }
+    domain::processes::all_young(words)
+}
+
+// 17: has no hazard of the process a node assigned?
+fn none_assigned(words: &[u32], kind: u32, p: ProcessId) -> bool
+    requires { ⌜ Sound (now words) ⌝ }
+    ensures { λ r. ⌜ r ≡ answerTo 17 (asked kind (now (words .entry)) (p .0) 0 0) ⌝ }
+{
+    if kind != kinds::MANAGE {
+        return true;
+    }
+    read::unassigned(words, p)
 }
 
 // The refusal of a step: the first question with the answer no.
-pub fn refusal(words: &[u32], kind: u32, p: ProcessId, h: HazardId, c: NodeId) -> u32
+pub fn refusal(words: &[u32], kind: u32, p: ProcessId, h: HazardId, c: NodeId, guest: u32) -> u32
     requires { ⌜ Sound (now words) ⌝ }
-    ensures { λ r. ⌜ ((guest : ℕ) → r ≡ refusalOf (kindOf kind) (decode (now (words .entry))) (given kind (p .0) (h .0) (c .0) guest)) ⌝ }
+    ensures { λ r. ⌜ r ≡ refusalOf (kindOf kind) (decode (now (words .entry))) (given kind (p .0) (h .0) (c .0) guest) ⌝ }
 {
-    let row = kinds::row_of(kind);
-    let outside = kinds::ranges(kind, row, p, h, c, domain::bounds(words));
-    if outside != 0 {
-        return outside;
+    if !kinds::known(kind) {
+        4
+    } else if !process_in_range(words, kind, p) {
+        5
+    } else if !hazard_in_range(words, kind, h) {
+        6
+    } else if !node_in_range(words, kind, c) {
+        7
+    } else if !state_met(words, kind, c) {
+        8
+    } else if !owned(words, kind, p, c) {
+        9
+    } else if !assigned(words, kind, p, h) {
+        10
+    } else if !reachable(words, kind, p, h) {
+        11
+    } else if !validated(words, kind, p, h) {
+        12
+    } else if !room(words, kind, p) {
+        13
+    } else if !store_pending(words, kind, p) {
+        14
+    } else if !clock_goes_on(words, kind) {
+        15
+    } else if !stores_young(words, kind) {
+        16
+    } else if !none_assigned(words, kind, p) {
+        17
+    } else {
+        0
     }
-    let unheld = node_questions(words, row, p, c);
-    if unheld != 0 {
-        return unheld;
-    }
-    own(words, kind, p, h)
 }

@@ -1,5 +1,4 @@
+pub mod Sizes
 pub mod Step
 pub mod Turns
-pub mod Ways
-pub mod Rules
-pub mod Theorems
+pub mod Whole

@@ -1,12 +1,12 @@
--- One step on sound words: what it answers and leaves is what the call on words does, and the reachable count goes with it. Assumes
--- nothing.
-use Prim.Native.Nat.{ℕ, suc, _+_, _*_, _-_, _≤_, _<_}
+-- One step on sound words: what it answers and leaves is what the rules say, the reachable count goes with it, and its line follows what
+-- was put before it. Assumes nothing.
+use Prim.Native.Nat.{ℕ, _+_, _-_, _≤_, _<_}
 use mathlib.Core.Bool.{Bool, true, false, _&&_, cond}
-use mathlib.Core.List.{List}
-use mathlib.Core.Path.{_≡_, refl, sym, ap, _∙_, subst}
+use mathlib.Core.List.{List, _++_}
+use mathlib.Core.Path.{_≡_, refl, ap, _∙_, subst}
 use mathlib.Core.Logic.{_≢_}
 use native.Mathlib.Omega.{arith}
-use lib.ListN.{set}
+use lib.ListN.{length, take}
 use lib.Dec.{eqb}
 use borrow.Author.Tests.{ne-eqb, eqb-true}
 use Rattle.lists.proofs.Counts.{count-most}
@@ -16,11 +16,11 @@ use Rattle.model.specs.Claims.{acceptedAs, reachableCount}
 use Rattle.model.proofs.Theorems.{step-well-formed, panel-step}
 use Rattle.layout.specs.Encode.{decode}
 use Rattle.layout.proofs.Sound.{decoded}
-use Rattle.layout.proofs.Checked.{sound-well-formed}
+use Rattle.text.specs.Text.{Put, stepText, stepTextSize}
+use Rattle.text.proofs.Digits.{put-take}
 use Rattle.steps.specs.Stepped.{Stepped}
-use Rattle.qsense.specs.Calls.{Reply, stepWords, reachableWords}
-use Rattle.qsense.proofs.Checked as Checked
 use Rattle.replay.specs.Turn.{countAfter, Counted, Taken}
+use Rattle.replay.proofs.Sizes.{refusal-low, step-size}
 
 -- ---- the reachable count
 
@@ -33,8 +33,8 @@ apart k n m true true e h =
     let one : m + 1 ≡ n + 0 = h ∙ ap (λ (x : Bool). n + cond x 1 0) other in
     omega arith
 
--- it stays far below the largest number of a word
-pub few : (ws : List ℕ) (n : ℕ) → Counted ws n → n < 4294967295
+-- there are at most 256 nodes
+pub few : (ws : List ℕ) (n : ℕ) → Counted ws n → n ≤ 256
 few ws n (sound, e) =
     let many = count-most (λ (x : Node). eqb (x .state) Reachable) (decode ws .nodes) in
     omega (arith, e, many, sound .domain .nodeCount, sound .domain .params .nodes .1)
@@ -56,10 +56,6 @@ module _ (n kind refusal : ℕ) where
   pub count-kept : refusal ≡ 0 → kind ≢ 2 → kind ≢ 7 → n ≡ countAfter n kind refusal
   count-kept e p r = rw (e, ne-eqb kind 2 p, ne-eqb kind 7 r) (omega arith)
 
--- what the call for it answers on sound words
-pub panel-is : (ws : List ℕ) (n : ℕ) → Counted ws n → n ≡ reachableWords ws .value
-panel-is ws n (sound, e) = ap (λ (r : Reply). r .value) (Checked.counted ws true (sym (sound-well-formed sound)) refl n e)
-
 module _ (ws : List ℕ) (n : ℕ) (c : Counted ws n) (s : Step) (r v : ℕ) (ws' : List ℕ) (h : Stepped (step (decode ws) s) r v ws') where
   law : reachableCount (step (decode ws) s .after) + acceptedAs 7 (s .kind) r ≡ n + acceptedAs 2 (s .kind) r
   law = rw (h .refusal, c .1) (panel-step (decode ws) s (c .0 .domain))
@@ -71,30 +67,37 @@ module _ (ws : List ℕ) (n : ℕ) (c : Counted ws n) (s : Step) (r v : ℕ) (ws
   after-is : decode ws' ≡ step (decode ws) s .after
   after-is = decoded (h .words) (step-well-formed (decode ws) s (c .0 .domain))
 
-  pub counted-after : (m : ℕ) → m ≡ countAfter n (s .kind) r → Counted ws' m
-  counted-after m e = (h .sound, omega (arith, e, law, ap reachableCount after-is))
+  module _ (m : ℕ) (e : m ≡ countAfter n (s .kind) r) where
+    panel-is : m ≡ reachableCount (step (decode ws) s .after)
+    panel-is = omega (arith, e, law)
 
-  reply : record { refusal = r; value = v; words = ws' } ≡ stepWords ws s
-  reply = Checked.step-taken ws true (sym (sound-well-formed (c .0))) s refl r v ws' h .0
+    counted-after : Counted ws' m
+    counted-after = (h .sound, omega (arith, panel-is, ap reachableCount after-is))
 
-  pub taken : (i : ℕ) (ls : List ℕ) (m : ℕ) → m ≡ countAfter n (s .kind) r
-      → Taken s i ws ls ws' (set (set (set ls (3 * i) r) (3 * i + 1) v) (3 * i + 2) m) m
-  taken i ls m e =
-      let k = counted-after m e in
-      let p : m ≡ reachableWords (stepWords ws s .words) .value =
-      panel-is ws' m k ∙ ap (λ (x : Reply). reachableWords (x .words) .value) reply in
-      let second : 3 * i + 1 ≡ suc (3 * i) = omega arith in
-      let third : 3 * i + 2 ≡ suc (suc (3 * i)) = omega arith in
-      record {
-        counted = k;
-        words = ap (λ (x : Reply). x .words) reply;
-        lines = λ t. set (set (set ls (3 * i) (reply t .refusal)) (second t) (reply t .value)) (third t) (p t);
-      }
+    -- the line of the step, the i-th, is as short as the print counts on
+    pub line-size : (i : ℕ) → i < 5458 → s .kind < 256 → stepTextSize i (s .kind) r v m ≤ 27
+    line-size i p q =
+        step-size i (s .kind) r v m p q (omega (arith, h .refusal, refusal-low (decode ws) s)) (few ws' m counted-after)
+
+    pub taken : (i at : ℕ) (out out' : List ℕ) (at' : ℕ) → i < 5458 → s .kind < 256 → at + 27 ≤ length out
+        → Put out at (stepText i (s .kind) r v m) (stepTextSize i (s .kind) r v m) out' at'
+        → Taken s i at ws out ws' out' (record { at = at'; reachable = m })
+    taken i at out out' at' p q l x =
+        let short = line-size i p q in
+        let line = put-take out at _ _ out' at' x (omega arith) in
+        record {
+          counted = counted-after;
+          domain = after-is;
+          text = line ∙ (λ t. take at out ++ stepText i (s .kind) (h .refusal t) (h .value t) (panel-is t));
+          room = omega (arith, x .ends);
+        }
 
 -- the same of a step that equals the one taken
 pub taken-at : (ws : List ℕ) (n : ℕ) → Counted ws n → (s s' : Step) → s ≡ s' → (r v : ℕ) (ws' : List ℕ)
-    → Stepped (step (decode ws) s) r v ws' → (i : ℕ) (ls : List ℕ) (m : ℕ) → m ≡ countAfter n (s .kind) r
-    → Taken s' i ws ls ws' (set (set (set ls (3 * i) r) (3 * i + 1) v) (3 * i + 2) m) m
-taken-at ws n c s s' e r v ws' h i ls m q =
-    subst (λ (x : Step). Taken x i ws ls ws' (set (set (set ls (3 * i) r) (3 * i + 1) v) (3 * i + 2) m) m) e
-    (taken ws n c s r v ws' h i ls m q)
+    → Stepped (step (decode ws) s) r v ws' → (m : ℕ) → m ≡ countAfter n (s .kind) r → (i at : ℕ) (out out' : List ℕ) (at' : ℕ)
+    → i < 5458 → s .kind < 256 → at + 27 ≤ length out
+    → Put out at (stepText i (s .kind) r v m) (stepTextSize i (s .kind) r v m) out' at'
+    → Taken s' i at ws out ws' out' (record { at = at'; reachable = m })
+taken-at ws n c s s' e r v ws' h m k i at out out' at' p q l x =
+    subst (λ (y : Step). Taken y i at ws out ws' out' (record { at = at'; reachable = m })) e
+    (taken ws n c s r v ws' h m k i at out out' at' p q l x)

@@ -1,5 +1,4 @@
 -- What the contracts of `replay` cite.
-pub mod Transcript
-pub mod Values
+pub mod Most
+pub mod Lines
 pub mod Turn
-pub mod Claims

@@ -1,14 +1,18 @@
--- One step of a replay, and all of them. Assumes nothing.
-use Prim.Native.Nat.{ℕ, _+_, _*_, _-_}
-use mathlib.Core.List.{List, [], _∷_}
+-- One step of a replay, all of them, and the whole. Assumes nothing.
+use Prim.Native.Nat.{ℕ, _+_, _*_, _-_, _≤_}
+use mathlib.Core.List.{List, _++_}
 use mathlib.Core.Path.{_≡_}
-use lib.Seq.{sets}
+use lib.ListN.{length, take}
+use Rattle.model.specs.Params.{wordCount}
 use Rattle.model.specs.State.{Step}
+use Rattle.model.specs.Machine.{step, run, fresh}
 use Rattle.model.specs.Claims.{acceptedAs, reachableCount}
-use Rattle.layout.specs.Encode.{decode}
+use Rattle.layout.specs.Encode.{encode, decode}
 use Rattle.layout.specs.Sound.{Sound}
-use Rattle.qsense.specs.Calls.{stepWords, reachableWords, runWords}
-use Rattle.replay.specs.Transcript.{Last, linesOf, lastOf}
+use Rattle.trace.specs.Trace.{given, Front, frontOf, Trace}
+use Rattle.replay.specs.Most.{mostStepLine, bookRoom}
+use Rattle.replay.specs.Lines.{stepLine, stepLines, bookText}
+use Rattle.replay.specs.declared.Turn.{Turn}
 
 -- the reachable count after a step, from the count before it: a publish (2) raises it, a remove (7) lowers it
 abbrev pub countAfter : ℕ → ℕ → ℕ → ℕ
@@ -18,15 +22,26 @@ countAfter n kind refusal = n + acceptedAs 2 kind refusal - acceptedAs 7 kind re
 abbrev pub Counted : List ℕ → ℕ → Type 0
 Counted ws n = Sound ws × (n ≡ reachableCount (decode ws))
 
--- step s is taken on the words ws, its line is the i-th, and n is the reachable count after it
-pub record Taken (s : Step) (i : ℕ) (ws ls ws' ls' : List ℕ) (n : ℕ) : Type 0 where
-  pub counted : Counted ws' n
-  pub words : ws' ≡ stepWords ws s .words
-  pub lines : ls'
-      ≡ sets ls (3 * i) (stepWords ws s .refusal ∷ stepWords ws s .value ∷ reachableWords (stepWords ws s .words) .value ∷ [])
+-- step s is taken on the words ws, and its line, the i-th, follows what stands before at
+pub record Taken (s : Step) (i at : ℕ) (ws out ws' out' : List ℕ) (r : Turn) : Type 0 where
+  pub counted : Counted ws' (r .reachable)
+  pub domain : decode ws' ≡ step (decode ws) s .after
+  pub text : take (r .at) out' ≡ take at out ++ stepLine i (decode ws) s
+  pub room : r .at ≤ at + mostStepLine
 
--- the steps are taken, their lines are ls', and e is the last line
-pub record Ran (ss : List Step) (ws ws' ls' : List ℕ) (e : Last) : Type 0 where
-  pub words : ws' ≡ runWords ws ss
-  pub lines : ls' ≡ linesOf ws ss
-  pub last : e ≡ lastOf (runWords ws ss)
+-- all steps are taken, and their lines follow what stands before at
+pub record Ran (ss : List Step) (at : ℕ) (ws out ws' out' : List ℕ) (r : Turn) : Type 0 where
+  pub counted : Counted ws' (r .reachable)
+  pub domain : decode ws' ≡ run (decode ws) ss
+  pub text : take (r .at) out' ≡ take at out ++ stepLines 0 (decode ws) ss
+  pub room : r .at ≤ at + mostStepLine * length ss
+
+-- the bytes open as a trace with this front, the words are as many as its domain takes, and its print fits the buffer
+abbrev pub Ready : List ℕ → Front → List ℕ → List ℕ → Type 0
+Ready bs f ws out = (frontOf bs ≡ given f) × (length ws ≡ wordCount (f .params)) × (bookRoom (f .count) ≤ length out)
+
+-- the trace is replayed: the words are those that the rules come to, and the first n bytes of the buffer are its print
+pub record Replayed (t : Trace) (ws' out' : List ℕ) (n : ℕ) : Type 0 where
+  pub words : ws' ≡ encode (run (fresh (t .params)) (t .steps))
+  pub text : take n out' ≡ bookText t
+  pub room : n ≤ bookRoom (length (t .steps))

@@ -1,39 +1,33 @@
-// The running of a trace (the paper's step book) on words of its own: each answer, the reachable count (the paper's panel) after each
-// step, and the numbers of the last line. Any words, bytes, header and lines will do.
+// The running of a trace (the paper's step book) on words of its own: each step's line is put into the print as the step is taken.
+pub mod most;
+
 use layout::HazardId;
 use layout::NodeId;
 use layout::ProcessId;
 use trace::Header;
+use trace::widths::step_byte;
 ghost use mathlib.Core.Path.{_≡_};
 ghost use Prim.Native.Nat.{_+_, _*_, _≤_, _<_};
 ghost use lib.ListN.{length};
+ghost use Rattle.model.specs.Params.{lastClock};
 ghost use Rattle.model.specs.Claims.{acceptedAs};
 ghost use Rattle.layout.specs.Sound.{Sound};
 ghost use Rattle.trace.specs.Bytes.{stepAt, stepsFrom};
+ghost use Rattle.trace.specs.Claims.{ledFrom};
 ghost use Rattle.trace.specs.Values.{headerValue};
-ghost use Rattle.replay.specs.Transcript.{replayInto};
-ghost use Rattle.replay.specs.Values.{endValue, transcriptOf};
-ghost use Rattle.replay.specs.Turn.{countAfter, Counted, Taken, Ran};
+ghost use Rattle.trace.specs.Widths.{stepSize, mostSteps};
+ghost use Rattle.replay.specs.Most.{mostStepLine};
+ghost use Rattle.replay.specs.Turn.{countAfter, Counted, Taken, Ran, Ready, Replayed};
 
-const STEP_SIZE: usize = 12;
-
-// The numbers of the last line.
-pub struct End {
-    pub clock: u32,
-    pub path: u32,
-    pub reachable: u32,
-}
-
-// What comes of a replay.
-pub enum Replayed {
-    Done(End),
-    // Not begun, and nothing written.
-    NoRoom,
+// Where the next line goes, and the reachable count (the paper's panel).
+struct Turn {
+    at: usize,
+    reachable: u32,
 }
 
 // The reachable count after a step, from the one before it: one more after an accepted publish, one less after an accepted remove.
 fn counted(reachable: u32, kind: u32, refusal: u32) -> u32
-    requires { ⌜ (reachable < 4294967295) × (acceptedAs 7 kind refusal ≤ reachable) ⌝ }
+    requires { ⌜ (reachable < lastClock) × (acceptedAs 7 kind refusal ≤ reachable) ⌝ }
     ensures { λ r. ⌜ r ≡ countAfter reachable kind refusal ⌝ }
 {
     if refusal != 0 {
@@ -48,19 +42,20 @@ fn counted(reachable: u32, kind: u32, refusal: u32) -> u32
     reachable
 }
 
-// Takes the step at an offset and writes its line, the i-th; answers the reachable count after it.
+// Takes the step that stands in the bytes from `from` on, the i-th, and puts its line into the print from `at` on.
 fn replay_step(
     words: &mut [u32],
     bytes: &[u8],
-    at: usize,
-    lines: &mut [u32],
-    i: usize,
+    from: usize,
+    i: u32,
     reachable: u32,
-) -> u32
-    requires { ⌜ Counted (now words) reachable × (3 * i + 3 ≤ length (now lines)) ⌝ }
-    ensures { λ r. ⌜ Taken (stepAt (now (bytes .entry)) at) i (now (words .entry)) (now (lines .entry)) (now (words .exit)) (now (lines .exit)) r ⌝ }
+    out: &mut [u8],
+    at: usize,
+) -> Turn
+    requires { ⌜ Counted (now words) reachable × (i < mostSteps) × (at + mostStepLine ≤ length (now out)) ⌝ }
+    ensures { λ r. ⌜ Taken (stepAt (now (bytes .entry)) from) i at (now (words .entry)) (now (out .entry)) (now (words .exit)) (now (out .exit)) r ⌝ }
 {
-    let step = trace::step_at(bytes, at);
+    let step = trace::step_at(bytes, from);
     let answer = steps::step_known(
         words,
         step.kind,
@@ -70,52 +65,50 @@ fn replay_step(
         step.guest,
     );
     let after = counted(reachable, step.kind, answer.refusal);
-    lines[3 * i] = answer.refusal;
-    lines[3 * i + 1] = answer.value;
-    lines[3 * i + 2] = after;
-    after
+    let end = text::put_step(out, at, i, step.kind, answer.refusal, answer.value, after);
+    Turn {
+        at: end,
+        reachable: after,
+    }
 }
 
-// Takes the steps one after another, the first at an offset, and writes their lines. The words are sound, so no step checks them again.
+// Takes the steps one after another, the first at an offset, and puts their lines into the print from start on. The words are sound, so
+// no step checks them again.
 fn replay_steps(
     words: &mut [u32],
     bytes: &[u8],
     first: usize,
-    count: usize,
-    lines: &mut [u32],
-) -> End
-    requires { ⌜ Sound (now words) × (first + 12 * count ≤ length (now bytes)) × (length (now lines) ≡ 3 * count) ⌝ }
-    ensures { λ r. ⌜ Ran (stepsFrom (now (bytes .entry)) first count) (now (words .entry)) (now (words .exit)) (now (lines .exit)) (endValue r) ⌝ }
+    count: u32,
+    out: &mut [u8],
+    start: usize,
+) -> Turn
+    requires { ⌜ Sound (now words) × (first + stepSize * count ≤ length (now bytes)) ⌝ }
+    requires { ⌜ (count ≤ mostSteps) × (start + mostStepLine * count ≤ length (now out)) ⌝ }
+    ensures { λ r. ⌜ Ran (stepsFrom (now (bytes .entry)) first count) start (now (words .entry)) (now (out .entry)) (now (words .exit)) (now (out .exit)) r ⌝ }
 {
     let mut reachable = domain::reachable_count(words);
-    let mut i = 0;
+    let mut at = start;
+    let mut i: u32 = 0;
     while i < count {
-        reachable = replay_step(words, bytes, first + STEP_SIZE * i, lines, i, reachable);
+        let from = first + step_byte::WIDTH * layout::wide(i);
+        let turn = replay_step(words, bytes, from, i, reachable, out, at);
+        at = turn.at;
+        reachable = turn.reachable;
         i += 1;
     }
-    End {
-        clock: domain::clock(words),
-        path: domain::path(words),
-        reachable,
-    }
+    Turn { at, reachable }
 }
 
-// Runs the steps that a header leads to on a fresh domain of its parameters. A line is three words: refusal, value, and the reachable
-// count after the step. NoRoom unless the lines are exactly three words a step, the steps stand in the bytes, and `make` takes the
-// words and the parameters.
-pub fn replay(words: &mut [u32], bytes: &[u8], header: Header, lines: &mut [u32]) -> Replayed
-    ensures { λ r. ⌜ transcriptOf r (now (words .exit)) (now (lines .exit)) ≡ replayInto (now (words .entry)) (now (bytes .entry)) (headerValue header) (now (lines .entry)) ⌝ }
+// Runs the steps that a header leads to on a fresh domain of its parameters and puts the book's lines into the print: the parameters, a
+// line a step, and the last line. Answers the bytes of the print. The words are as many as the domain takes.
+pub fn replay(words: &mut [u32], bytes: &[u8], header: Header, out: &mut [u8]) -> usize
+    requires { ⌜ Ready (now bytes) (headerValue header) (now words) (now out) ⌝ }
+    ensures { λ r. ⌜ Replayed (ledFrom (now (bytes .entry)) (headerValue header)) (now (words .exit)) (now (out .exit)) r ⌝ }
 {
-    let count = layout::wide(header.count);
-    if lines.len() != 3 * count {
-        return Replayed::NoRoom;
-    }
-    if !trace::holds(bytes, header.first, STEP_SIZE * count) {
-        return Replayed::NoRoom;
-    }
-    let made = qsense::make(words, header.params);
-    if made.refusal != 0 {
-        return Replayed::NoRoom;
-    }
-    Replayed::Done(replay_steps(words, bytes, header.first, count, lines))
+    layout::fresh::write_fresh(words, header.params);
+    let start = text::put_params(out, header.params);
+    let turn = replay_steps(words, bytes, header.first, header.count, out, start);
+    let clock = domain::clock(words);
+    let path = domain::path(words);
+    text::put_end(out, turn.at, clock, path, turn.reachable)
 }

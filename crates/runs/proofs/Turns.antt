@@ -10,51 +10,52 @@ use lib.ListN.{length, set, take, drop, length-set}
 use lib.Seq.{take-all, drop-drop, getD-take, getD-drop}
 use Rattle.lists.proofs.RowParts.{take-sets}
 use Rattle.model.specs.State.{Step}
-use Rattle.layout.specs.Shape.{word}
+use Rattle.layout.specs.Shape.{word, stepWidth, answerWidth}
 use Rattle.layout.specs.Words.{wellFormed}
 use Rattle.qsense.specs.Calls.{Reply, stepWords, runWords}
-use Rattle.qsense.specs.Values.{pairReply}
+use Rattle.qsense.specs.Values.{wordRange, Stepped}
 use Rattle.qsense.proofs.Checked.{unpaired}
-use Rattle.runs.specs.Runs.{stepAt, stepsIn, answersOf, stepIn, Taken}
+use Rattle.runs.specs.Runs.{stepsIn, answersOf, stepIn, Taken}
 
 -- the steps from the i-th to the last of n
 abbrev pub left : ℕ → List ℕ → ℕ → List Step
-left n steps i = stepsIn (n - i) (drop (5 * i) steps)
+left n steps i = stepsIn (n - i) (drop (stepWidth * i) steps)
 
 -- after i of n steps: the words ws and the answers rs are on the way to what the whole list leaves
 pub record Going (b : Bool) (n i : ℕ) (steps ws₀ rs₀ ws rs : List ℕ) : Type 0 where
   pub good : b ≡ wellFormed ws
   pub words : runWords ws (left n steps i) ≡ runWords ws₀ (stepsIn n steps)
-  pub answers : take (2 * i) rs ++ answersOf ws (left n steps i) ≡ answersOf ws₀ (stepsIn n steps)
+  pub answers : take (answerWidth * i) rs ++ answersOf ws (left n steps i) ≡ answersOf ws₀ (stepsIn n steps)
   pub long : length rs ≡ length rs₀
 
-word-in : (steps : List ℕ) (at j : ℕ) → j < 5 → word (take 5 (drop at steps)) j ≡ word steps (at + j)
-word-in steps at j h = getD-take 5 (drop at steps) j 0 h ∙ getD-drop at steps j 0
+-- word j of a row that starts at `at`
+word-in : (steps : List ℕ) (at j : ℕ) → j < stepWidth → word (take stepWidth (drop at steps)) j ≡ word steps (at + j)
+word-in steps at j h = getD-take stepWidth (drop at steps) j 0 h ∙ getD-drop at steps j 0
 
-step-is : (steps : List ℕ) (i : ℕ) → stepAt (take 5 (drop (5 * i) steps)) ≡ stepIn steps i
+step-is : (steps : List ℕ) (i : ℕ) → stepIn (take stepWidth (drop (stepWidth * i) steps)) 0 ≡ stepIn steps i
 step-is steps i = λ t. record {
-  kind = (word-in steps (5 * i) 0 (omega arith) ∙ ap (λ (k : ℕ). word steps k) (add-zero (5 * i))) t;
-  process = word-in steps (5 * i) 1 (omega arith) t;
-  hazard = word-in steps (5 * i) 2 (omega arith) t;
-  node = word-in steps (5 * i) 3 (omega arith) t;
-  guest = word-in steps (5 * i) 4 (omega arith) t;
+  kind = word-in steps (stepWidth * i) 0 (omega arith) t;
+  process = word-in steps (stepWidth * i) 1 (omega arith) t;
+  hazard = word-in steps (stepWidth * i) 2 (omega arith) t;
+  node = word-in steps (stepWidth * i) 3 (omega arith) t;
+  guest = word-in steps (stepWidth * i) 4 (omega arith) t;
 }
 
 left-next : (n i : ℕ) (steps : List ℕ) → i < n → left n steps i ≡ stepIn steps i ∷ left n steps (i + 1)
 left-next n i steps h =
     let e : n - i ≡ suc (n - (i + 1)) = omega arith in
-    let f : 5 * i + 5 ≡ 5 * (i + 1) = omega arith in
+    let f : stepWidth * i + stepWidth ≡ stepWidth * (i + 1) = omega arith in
     rw (e, drop-drop, f, step-is)
 
 -- of a step whose answer is one number, the i-th answer by its two words
-pub taken : (b : Bool) (s : Step) (i n : ℕ) (ws rs : List ℕ) {r v : ℕ} {ws' : List ℕ} → r ≡ n % 4294967296 → v ≡ n / 4294967296
-    → (pairReply n ws' ≡ stepWords ws s) × (b ≡ wellFormed ws') → Taken b s i ws rs ws' (set (set rs (2 * i) r) (2 * i + 1) v)
-taken b s i n ws rs p q (e, w) =
-    let x = unpaired n p q e in
+pub taken : (b : Bool) (s : Step) (i n : ℕ) (ws rs : List ℕ) {r v : ℕ} {ws' : List ℕ} → r ≡ n % wordRange → v ≡ n / wordRange
+    → Stepped b s ws n ws' → Taken b s i ws rs ws' (set (set rs (answerWidth * i + 0) r) (answerWidth * i + 1) v)
+taken b s i n ws rs p q h =
+    let x = unpaired n p q (h .reply) in
     record {
       words = ap (λ (y : Reply). y .words) x;
-      answers = λ t. set (set rs (2 * i) (x t .refusal)) (add-one (2 * i) t) (x t .value);
-      good = w;
+      answers = λ t. set (set rs (add-zero (answerWidth * i) t) (x t .refusal)) (add-one (answerWidth * i) t) (x t .value);
+      good = h .good;
     }
 
 pub going-start : (b : Bool) (n : ℕ) (steps ws rs : List ℕ) → b ≡ wellFormed ws → Going b n 0 steps ws rs ws rs
@@ -67,31 +68,32 @@ going-start b n steps ws rs e =
       long = refl;
     }
 
-pub going-on : (b : Bool) (n i : ℕ) (steps ws₀ rs₀ ws rs ws' rs' : List ℕ) → i < n → 2 * n ≤ length rs₀
+pub going-on : (b : Bool) (n i : ℕ) (steps ws₀ rs₀ ws rs ws' rs' : List ℕ) → i < n → answerWidth * n ≤ length rs₀
     → Going b n i steps ws₀ rs₀ ws rs → Taken b (stepIn steps i) i ws rs ws' rs' → Going b n (i + 1) steps ws₀ rs₀ ws' rs'
 going-on b n i steps ws₀ rs₀ ws rs ws' rs' h l g t =
     let s = stepIn steps i in
     let r = stepWords ws s in
     let next = left-next n i steps h in
-    let front : take (2 * (i + 1)) rs' ≡ take (2 * i) rs ++ (r .refusal ∷ r .value ∷ []) =
-    ap (λ (x : List ℕ). take (2 * (i + 1)) x) (t .answers) ∙ take-sets (r .refusal ∷ r .value ∷ []) rs (2 * i) (2 * (i + 1)) (omega arith) (omega (arith, g .long)) in
+    let front : take (answerWidth * (i + 1)) rs' ≡ take (answerWidth * i) rs ++ (r .refusal ∷ r .value ∷ []) =
+    ap (λ (x : List ℕ). take (answerWidth * (i + 1)) x) (t .answers)
+    ∙ take-sets (r .refusal ∷ r .value ∷ []) rs (answerWidth * i) (answerWidth * (i + 1)) (omega arith) (omega (arith, g .long)) in
     record {
       good = t .good;
       words = ap (λ (w : List ℕ). runWords w (left n steps (i + 1))) (t .words)
           ∙ sym (ap (λ (ss : List Step). runWords ws ss) next) ∙ g .words;
       answers = ap (λ (x : List ℕ). x ++ answersOf ws' (left n steps (i + 1))) front
-          ∙ ap (λ (w : List ℕ). take (2 * i) rs ++ (r .refusal ∷ r .value ∷ []) ++ answersOf w (left n steps (i + 1))) (t .words)
-          ∙ append-assoc (take (2 * i) rs) (r .refusal ∷ r .value ∷ []) (answersOf (r .words) (left n steps (i + 1)))
-          ∙ sym (ap (λ (ss : List Step). take (2 * i) rs ++ answersOf ws ss) next) ∙ g .answers;
+          ∙ ap (λ (w : List ℕ). take (answerWidth * i) rs ++ (r .refusal ∷ r .value ∷ []) ++ answersOf w (left n steps (i + 1))) (t .words)
+          ∙ append-assoc (take (answerWidth * i) rs) (r .refusal ∷ r .value ∷ []) (answersOf (r .words) (left n steps (i + 1)))
+          ∙ sym (ap (λ (ss : List Step). take (answerWidth * i) rs ++ answersOf ws ss) next) ∙ g .answers;
       long = rw (t .answers) (simp length-set (g .long));
     }
 
-pub going-end : (b : Bool) (n i : ℕ) (steps ws₀ rs₀ ws rs : List ℕ) → i ≡ n → length rs₀ ≡ 2 * n → Going b n i steps ws₀ rs₀ ws rs
+pub going-end : (b : Bool) (n i : ℕ) (steps ws₀ rs₀ ws rs : List ℕ) → i ≡ n → length rs₀ ≡ answerWidth * n → Going b n i steps ws₀ rs₀ ws rs
     → (ws ≡ runWords ws₀ (stepsIn n steps)) × (rs ≡ answersOf ws₀ (stepsIn n steps))
 going-end b n i steps ws₀ rs₀ ws rs e l g =
     let over : n - i ≡ 0 = omega arith in
-    let none : left n steps i ≡ [] = ap (λ (k : ℕ). stepsIn k (drop (5 * i) steps)) over in (
+    let none : left n steps i ≡ [] = ap (λ (k : ℕ). stepsIn k (drop (stepWidth * i) steps)) over in (
       sym (ap (λ (ss : List Step). runWords ws ss) none) ∙ g .words,
-      sym (take-all (2 * i) rs (omega (arith, g .long))) ∙ sym (append-nil (take (2 * i) rs))
-          ∙ sym (ap (λ (ss : List Step). take (2 * i) rs ++ answersOf ws ss) none) ∙ g .answers,
+      sym (take-all (answerWidth * i) rs (omega (arith, g .long))) ∙ sym (append-nil (take (answerWidth * i) rs))
+          ∙ sym (ap (λ (ss : List Step). take (answerWidth * i) rs ++ answersOf ws ss) none) ∙ g .answers,
     )

@@ -2,29 +2,30 @@
 use layout::HazardId;
 use layout::NodeId;
 use layout::ProcessId;
+use layout::words::answer_word;
+use layout::words::step_word;
 ghost use mathlib.Core.Path.{_≡_};
-ghost use Prim.Native.Nat.{_+_, _*_, _≤_};
-ghost use lib.ListN.{length};
 ghost use Rattle.layout.specs.Words.{wellFormed};
-ghost use Rattle.runs.specs.Runs.{stepIn, Taken, ranOf, runInto};
+ghost use Rattle.runs.specs.Runs.{stepIn, HoldsTurn, Taken, ranOf, runInto};
 
 // Takes step i of a list and writes its answer.
 fn run_step(words: &mut [u32], good: bool, steps: &[u32], answers: &mut [u32], i: usize)
-    requires { ⌜ (good ≡ wellFormed (now words)) × (5 * i + 5 ≤ length (now steps)) × (2 * i + 2 ≤ length (now answers)) ⌝ }
+    requires { ⌜ (good ≡ wellFormed (now words)) × HoldsTurn i (now steps) (now answers) ⌝ }
     ensures { λ _. ⌜ Taken good (stepIn (now (steps .entry)) i) i (now (words .entry)) (now (answers .entry)) (now (words .exit)) (now (answers .exit)) ⌝ }
 {
-    let at = 5 * i;
+    let at = step_word::WIDTH * i;
     let answer = qsense::step_checked(
         words,
         good,
-        steps[at],
-        ProcessId(steps[at + 1]),
-        HazardId(steps[at + 2]),
-        NodeId(steps[at + 3]),
-        steps[at + 4],
+        steps[at + step_word::KIND],
+        ProcessId(steps[at + step_word::PROCESS]),
+        HazardId(steps[at + step_word::HAZARD]),
+        NodeId(steps[at + step_word::NODE]),
+        steps[at + step_word::GUEST],
     );
-    answers[2 * i] = layout::low(answer);
-    answers[2 * i + 1] = layout::high(answer);
+    let to = answer_word::WIDTH * i;
+    answers[to + answer_word::REFUSAL] = layout::low(answer);
+    answers[to + answer_word::VALUE] = layout::high(answer);
 }
 
 // Takes a list of steps, five words each, one after another, and writes their answers, two words each: the words are checked once, and
@@ -33,11 +34,11 @@ fn run_step(words: &mut [u32], good: bool, steps: &[u32], answers: &mut [u32], i
 pub fn run(words: &mut [u32], steps: &[u32], answers: &mut [u32]) -> bool
     ensures { λ r. ⌜ ranOf r (now (words .exit)) (now (answers .exit)) ≡ runInto (now (words .entry)) (now (steps .entry)) (now (answers .entry)) ⌝ }
 {
-    let count = steps.len() / 5;
-    if steps.len() != 5 * count {
+    let count = steps.len() / step_word::WIDTH;
+    if steps.len() != step_word::WIDTH * count {
         return false;
     }
-    if answers.len() != 2 * count {
+    if answers.len() != answer_word::WIDTH * count {
         return false;
     }
     let good = wellformed::well_formed(words);

@@ -9,11 +9,12 @@ use Rattle.lists.specs.Tests.{All}
 use Rattle.lists.specs.Rows.{rows}
 use Rattle.lists.proofs.Rows.{length-rows, length-unrows}
 use Rattle.lists.proofs.RowParts.{unrows-word}
+use Rattle.model.specs.Params.{Between, mostHazards, bufferSize, hazardWidth, storeWidth, bufferWidth}
 use Rattle.model.specs.State.{Pending, Hazard, Process, emptyHazard, hazardOf}
-use Rattle.layout.specs.Shape.{word, leadOf, leadAt, leadWords, hazardWords, hazardAt, pendingWords, pendingAt}
-use Rattle.layout.specs.Codecs.{hazardCodec, shape}
 use Rattle.layout.proofs.Encode.{process-back, process-width}
-use Rattle.layout.specs.Encode.{bufferWords, processWordsBy, processBy, processWords, processAt}
+use Rattle.layout.specs.Shape.{word, leadOf, hazardPlace, storesPlace}
+use Rattle.layout.specs.Codecs.{leadAt, leadWords, hazardAt, hazardWords, pendingAt, pendingWords, hazardCodec}
+use Rattle.layout.specs.Encode.{shape, bufferWords, processWordsBy, processBy, processWords, processAt}
 use Rattle.stretch.specs.Stretch.{Stretch}
 
 -- the words of a process before its buffer, with n stores pending
@@ -27,33 +28,33 @@ front-buffer x = refl
 
 -- ---- widths
 
-pub width-hazards : (hs : List Hazard) → length (rows hazardWords hs) ≡ length hs * 3
-width-hazards hs = length-rows hazardWords 3 emptyHazard hs (λ i l. refl)
+pub width-hazards : (hs : List Hazard) → length (rows hazardWords hs) ≡ length hs * hazardWidth
+width-hazards hs = length-rows hazardWords hazardWidth emptyHazard hs (λ i l. refl)
 
-pub width-stores : (b : List Pending) → length (rows pendingWords b) ≡ length b * 3
-width-stores b = length-rows pendingWords 3 (pendingAt []) b (λ i l. refl)
+pub width-stores : (b : List Pending) → length (rows pendingWords b) ≡ length b * storeWidth
+width-stores b = length-rows pendingWords storeWidth (pendingAt []) b (λ i l. refl)
 
-pub width-buffer : (b : List Pending) → length b ≤ 8 → length (bufferWords b) ≡ 24
+pub width-buffer : (b : List Pending) → length b ≤ bufferSize → length (bufferWords b) ≡ bufferWidth
 width-buffer b h = simp (length-append, length-replicate) (omega (arith, width-stores b))
 
-pub width-front : (n : ℕ) (x : Process) → length (front n x) ≡ 4 + 3 * length (x .hazards)
+pub width-front : (n : ℕ) (x : Process) → length (front n x) ≡ storesPlace shape (length (x .hazards))
 width-front n x = omega (arith, width-hazards (x .hazards))
 
 -- ---- there and back
 
-pub stores-length : (k : ℕ) (r : List ℕ) → length (processAt k r .buffer) ≡ word r 3
+pub stores-length : (k : ℕ) (r : List ℕ) → length (processAt k r .buffer) ≡ leadAt r .stores
 unfolding processBy
-stores-length k r = length-unrows pendingAt 3 (pendingAt []) (word r 3) (drop (4 + k * 3) r)
+stores-length k r = length-unrows pendingAt storeWidth (pendingAt []) (leadAt r .stores) (drop (shape .leadWidth + k * hazardWidth) r)
 
 pub hazards-length : (k : ℕ) (r : List ℕ) → length (processAt k r .hazards) ≡ k
 unfolding processBy
-hazards-length k r = length-unrows hazardAt 3 emptyHazard k (drop 4 r)
+hazards-length k r = length-unrows hazardAt hazardWidth emptyHazard k (drop (shape .leadWidth) r)
 
 module _ (x : Process) (k : ℕ) (hk : length (x .hazards) ≡ k) where
-  pub stretch-of : (r : List ℕ) → r ≡ processWords x → length (x .buffer) ≤ 8 → (1 ≤ k) × (k ≤ 8) → All (λ e. e .hazard < k) (x .buffer)
+  pub stretch-of : (r : List ℕ) → r ≡ processWords x → length (x .buffer) ≤ bufferSize → Between 1 mostHazards k → All (λ e. e .hazard < k) (x .buffer)
       → Stretch k r
   stretch-of r e room few aimed =
-      let back : processAt k r ≡ x = ap (λ (q : List ℕ). processAt k q) e ∙ process-back shape x k hk room in
+      let back : processAt k r ≡ x = ap (λ (q : List ℕ). processAt k q) e ∙ process-back shape x k hk room refl in
       record {
         few = few;
         long = ap length e ∙ process-width shape x k hk room;
@@ -67,25 +68,25 @@ module _ (x : Process) (k : ℕ) (hk : length (x .hazards) ≡ k) where
 
 module _ (k : ℕ) (r : List ℕ) where
   -- word j of hazard h
-  pub hazard-word : (h j a : ℕ) → 4 + 3 * k ≤ length r → h < k → j < 3 → a ≡ 4 + 3 * h + j
+  pub hazard-word : (h j a : ℕ) → storesPlace shape k ≤ length r → h < k → j < hazardWidth → a ≡ hazardPlace shape h + j
       → word (hazardWords (hazardOf (processAt k r) h)) j ≡ word r a
   unfolding processBy
   hazard-word h j a room l m e =
-      let n : k * 3 ≤ length (drop 4 r) = simp length-drop (omega arith) in
-      let f : 4 + (h * 3 + j) ≡ a = omega arith in
-      unrows-word hazardCodec emptyHazard k h j 0 (drop 4 r) l n m ∙ (getD-drop 4 r (h * 3 + j) 0 ∙ ap (λ (i : ℕ). word r i) f)
+      let n : k * hazardWidth ≤ length (drop (shape .leadWidth) r) = simp length-drop (omega arith) in
+      let f : shape .leadWidth + (h * hazardWidth + j) ≡ a = omega arith in
+      unrows-word hazardCodec emptyHazard k h j 0 (drop (shape .leadWidth) r) l n m ∙ (getD-drop (shape .leadWidth) r (h * hazardWidth + j) 0 ∙ ap (λ (i : ℕ). word r i) f)
 
   -- the records that those words make
   pub lead-at : leadAt r ≡ leadOf (processAt k r)
   unfolding processBy
   lead-at = λ t. record { epoch = word r 0; calls = word r 1; presence = word r 2; stores = sym (stores-length k r) t }
 
-  pub hazard-at : (h a : ℕ) → 4 + 3 * k ≤ length r → h < k → a ≡ 4 + 3 * h
-      → record { visible = word r a; assigned = word r (a + 1); validated = word r (a + 2) } ≡ hazardOf (processAt k r) h
+  pub hazard-at : (h a : ℕ) → storesPlace shape k ≤ length r → h < k → a ≡ hazardPlace shape h
+      → record { visible = word r (a + 0); assigned = word r (a + 1); validated = word r (a + 2) } ≡ hazardOf (processAt k r) h
   hazard-at h a room l e =
       sym
       (λ t. record {
-        visible = hazard-word h 0 a room l (omega arith) (omega arith) t;
+        visible = hazard-word h 0 (a + 0) room l (omega arith) (omega arith) t;
         assigned = hazard-word h 1 (a + 1) room l (omega arith) (omega arith) t;
         validated = hazard-word h 2 (a + 2) room l (omega arith) (omega arith) t;
       })

@@ -1,88 +1,105 @@
-// A process's own stretch of the words, lent as a slice of exactly its 28 + 3K words, so that no function here can write another's: 4 words
-// of lead, 3 a hazard, and 8 places of 3 words for pending stores (see crate `buffer` too). k is the number of hazards, in some functions
-// for the contract alone.
+// A process's own stretch of the words, lent as a slice of exactly its words, so that no function here can write another's: the lead, the
+// hazards, and the places of pending stores (module `buffer`).
+pub mod buffer;
+
 use layout::Hazard;
 use layout::HazardId;
 use layout::Lead;
+use layout::words::hazard_word;
+use layout::words::lead_word;
+use layout::words::store_word;
 ghost use mathlib.Core.Path.{_≡_};
-ghost use Prim.Native.Nat.{ℕ, _+_, _*_, _<_, _≤_};
+ghost use Prim.Native.Nat.{ℕ, _<_, _≤_};
 ghost use lib.ListN.{length};
+ghost use Rattle.model.specs.Params.{bufferSize};
 ghost use Rattle.model.specs.State.{withWords, hazardOf};
 ghost use Rattle.model.specs.Hazards.{assigning, validating, unassigned};
 ghost use Rattle.layout.specs.Shape.{leadOf};
 ghost use Rattle.layout.specs.Values.{leadValue, hazardValue};
-ghost use Rattle.layout.specs.Encode.{processWords, processAt};
-ghost use Rattle.stretch.specs.Stretch.{Stretch};
+ghost use Rattle.layout.specs.Encode.{shape, processWords, processAt};
+ghost use Rattle.stretch.specs.Stretch.{Stretched, heldIn};
+
+// How many hazards a process has; where its stretch starts and ends in the words; and where in the stretch its hazards and its pending
+// stores start.
+pub struct Place {
+    pub k: usize,
+    pub from: usize,
+    pub to: usize,
+    pub hazards: usize,
+    pub stores: usize,
+}
 
 // The words before the hazards.
 pub fn lead(row: &[u32]) -> Lead
-    requires { ⌜ 4 ≤ length (now row) ⌝ }
+    requires { ⌜ shape .leadWidth ≤ length (now row) ⌝ }
     ensures { λ r. ⌜ ((k : ℕ) → leadValue r ≡ leadOf (processAt k (now (row .entry)))) ⌝ }
 {
     Lead {
-        epoch: row[0],
-        calls: row[1],
-        presence: row[2],
-        stores: row[3],
+        epoch: row[lead_word::EPOCH],
+        calls: row[lead_word::CALLS],
+        presence: row[lead_word::PRESENCE],
+        stores: row[lead_word::STORES],
     }
 }
 
 // Writes the words before the hazards, but for how many stores are pending.
-pub fn set_lead(row: &mut [u32], k: usize, epoch: u32, calls: u32, presence: u32)
-    requires { ⌜ Stretch k (now row) ⌝ }
-    ensures { λ _. ⌜ (let x = processAt k (now (row .entry)) in now (row .exit) ≡ processWords (withWords x epoch calls presence)) ⌝ }
+pub fn set_lead(row: &mut [u32], at: Place, epoch: u32, calls: u32, presence: u32)
+    requires { ⌜ Stretched at (now row) ⌝ }
+    ensures { λ _. ⌜ now (row .exit) ≡ processWords (withWords (heldIn at (now (row .entry))) epoch calls presence) ⌝ }
 {
-    row[0] = epoch;
-    row[1] = calls;
-    row[2] = presence;
+    row[lead_word::EPOCH] = epoch;
+    row[lead_word::CALLS] = calls;
+    row[lead_word::PRESENCE] = presence;
 }
 
 // Hazard h.
-pub fn hazard(row: &[u32], k: usize, h: HazardId) -> Hazard
-    requires { ⌜ (h .0 < k) × (4 + 3 * k ≤ length (now row)) ⌝ }
-    ensures { λ r. ⌜ hazardValue r ≡ hazardOf (processAt k (now (row .entry))) (h .0) ⌝ }
+pub fn hazard(row: &[u32], at: Place, h: HazardId) -> Hazard
+    requires { ⌜ Stretched at (now row) × (h .0 < at .k) ⌝ }
+    ensures { λ r. ⌜ hazardValue r ≡ hazardOf (heldIn at (now (row .entry))) (h .0) ⌝ }
 {
-    let at = 4 + 3 * layout::wide(h.0);
+    let from = at.hazards + hazard_word::WIDTH * layout::wide(h.0);
     Hazard {
-        visible: row[at],
-        assigned: row[at + 1],
-        validated: row[at + 2],
+        visible: row[from + hazard_word::VISIBLE],
+        assigned: row[from + hazard_word::ASSIGNED],
+        validated: row[from + hazard_word::VALIDATED],
     }
 }
 
 // Assigns a node to hazard h, not validated, and adds the store of it to the buffer.
-pub fn assign(row: &mut [u32], k: usize, h: HazardId, node: u32, time: u32)
-    requires { ⌜ Stretch k (now row) × (h .0 < k) × (length (processAt k (now row) .buffer) < 8) ⌝ }
-    ensures { λ _. ⌜ (let x = processAt k (now (row .entry)) in now (row .exit) ≡ processWords (assigning x (h .0) node time)) ⌝ }
+pub fn assign(row: &mut [u32], at: Place, h: HazardId, node: u32, time: u32)
+    requires { ⌜ Stretched at (now row) × (h .0 < at .k) × (length (heldIn at (now row) .buffer) < bufferSize) ⌝ }
+    ensures { λ _. ⌜ now (row .exit) ≡ processWords (assigning (heldIn at (now (row .entry))) (h .0) node time) ⌝ }
 {
-    let stores = row[3];
-    let at = 4 + 3 * layout::wide(h.0);
-    let end = 4 + 3 * k + 3 * layout::wide(stores);
-    row[at + 1] = node;
-    row[at + 2] = 0;
-    row[3] = stores + 1;
-    row[end] = h.0;
-    row[end + 1] = node;
-    row[end + 2] = time;
+    let stores = row[lead_word::STORES];
+    let from = at.hazards + hazard_word::WIDTH * layout::wide(h.0);
+    let end = at.stores + store_word::WIDTH * layout::wide(stores);
+    row[from + hazard_word::ASSIGNED] = node;
+    row[from + hazard_word::VALIDATED] = 0;
+    row[lead_word::STORES] = stores + 1;
+    row[end + store_word::HAZARD] = h.0;
+    row[end + store_word::NODE] = node;
+    row[end + store_word::TIME] = time;
 }
 
 // Validates hazard h.
-pub fn validate(row: &mut [u32], k: usize, h: HazardId)
-    requires { ⌜ Stretch k (now row) × (h .0 < k) ⌝ }
-    ensures { λ _. ⌜ (let x = processAt k (now (row .entry)) in now (row .exit) ≡ processWords (validating x (h .0))) ⌝ }
+pub fn validate(row: &mut [u32], at: Place, h: HazardId)
+    requires { ⌜ Stretched at (now row) × (h .0 < at .k) ⌝ }
+    ensures { λ _. ⌜ now (row .exit) ≡ processWords (validating (heldIn at (now (row .entry))) (h .0)) ⌝ }
 {
-    row[4 + 3 * layout::wide(h.0) + 2] = 1;
+    let from = at.hazards + hazard_word::WIDTH * layout::wide(h.0);
+    row[from + hazard_word::VALIDATED] = 1;
 }
 
 // Has no hazard a node assigned?
-pub fn unassigned(row: &[u32], k: usize) -> bool
-    requires { ⌜ 4 + 3 * k ≤ length (now row) ⌝ }
-    ensures { λ r. ⌜ r ≡ unassigned (processAt k (now (row .entry))) ⌝ }
+pub fn unassigned(row: &[u32], at: Place) -> bool
+    requires { ⌜ Stretched at (now row) ⌝ }
+    ensures { λ r. ⌜ r ≡ unassigned (heldIn at (now (row .entry))) ⌝ }
 {
+    let k = at.k;
     let mut ok = true;
     let mut h = 0;
     while h < k {
-        ok = ok & (row[4 + 3 * h + 1] == 0);
+        ok = ok & (row[at.hazards + hazard_word::WIDTH * h + hazard_word::ASSIGNED] == 0);
         h += 1;
     }
     ok

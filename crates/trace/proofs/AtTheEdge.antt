@@ -7,7 +7,7 @@ use native.Mathlib.Omega.{arith}
 use lib.ListN.{length-append}
 use Rattle.lists.specs.Tests.{All}
 use Rattle.model.proofs.Each.{_then_}
-use Rattle.fresh.specs.Ranges.{inRange, sizesInRange}
+use Rattle.layout.specs.Ranges.{inRange, sizesInRange}
 use Rattle.trace.specs.Bytes.{wordAt, markAt, paramsAt, stepIn, stepAt, stepsFrom}
 use Rattle.trace.specs.Trace.{given, traceAt, traceOf, trailerRight, questioned}
 use Rattle.trace.specs.Written.{wordBytes}

@@ -2,12 +2,12 @@
 use Prim.Native.Nat.{ℕ, zero, suc, _+_, _*_, _-_, _≤_, _<_}
 use mathlib.Core.Bool.{Bool, true, false}
 use mathlib.Core.List.{List}
-use mathlib.Core.Path.{_≡_, refl, ap, _∙_}
+use mathlib.Core.Path.{_≡_, refl, sym, ap, _∙_}
 use native.Mathlib.Omega.{arith}
 use lib.ListN.{length, getD}
 use lib.Dec.{leb}
 use borrow.Author.Tests.{le-leb, leb-true}
-use Rattle.fresh.specs.Ranges.{inRange}
+use Rattle.layout.specs.Ranges.{inRange}
 use Rattle.trace.specs.Bytes.{noStep, stepAt, stepsFrom}
 use Rattle.trace.specs.Trace.{given, ask, Front, frontAt, frontOf, Trace, traceAt, traceOf, trailerRight}
 use Rattle.trace.specs.Trace.{countOf, distanceOf, paramsOf, questioned}
@@ -48,18 +48,26 @@ front-leads bs = asked-alike bs (leb (length bs) 65536) (trailerRight bs) (inRan
 pub record Passed (bs : List ℕ) (f : Front) : Type 0 where
   pub short : length bs ≤ 65536
   pub right : trailerRight bs ≡ true
+  pub range : inRange (f .params) ≡ true
   pub front : frontAt bs ≡ f
 
-passed-by : (bs : List ℕ) (f : Front) (l t r : Bool) → leb (length bs) 65536 ≡ l → trailerRight bs ≡ t
+passed-by : (bs : List ℕ) (f : Front) (l t r : Bool) → leb (length bs) 65536 ≡ l → trailerRight bs ≡ t → inRange (paramsOf bs) ≡ r
     → ask l 18 (ask t 19 (ask r 1 (given (frontAt bs)))) ≡ given f → Passed bs f
-passed-by bs f false t r p q e = absurd (let z : _≡_ {A = ℕ} 0 1 = cc in omega arith)
-passed-by bs f true false r p q e = absurd (let z : _≡_ {A = ℕ} 0 1 = cc in omega arith)
-passed-by bs f true true false p q e = absurd (let z : _≡_ {A = ℕ} 0 1 = cc in omega arith)
-passed-by bs f true true true p q e = record { short = leb-true (length bs) 65536 p; right = q; front = cc }
+passed-by bs f false t r p q s e = absurd (let z : _≡_ {A = ℕ} 0 1 = cc in omega arith)
+passed-by bs f true false r p q s e = absurd (let z : _≡_ {A = ℕ} 0 1 = cc in omega arith)
+passed-by bs f true true false p q s e = absurd (let z : _≡_ {A = ℕ} 0 1 = cc in omega arith)
+passed-by bs f true true true p q s e =
+    let same : frontAt bs ≡ f = cc in
+    record {
+      short = leb-true (length bs) 65536 p;
+      right = q;
+      range = sym (ap (λ (x : Front). inRange (x .params)) same) ∙ s;
+      front = same;
+    }
 
 pub passed : (bs : List ℕ) (f : Front) → frontOf bs ≡ given f → Passed bs f
 unfolding frontOf questioned
-passed bs f e = passed-by bs f (leb (length bs) 65536) (trailerRight bs) (inRange (paramsOf bs)) refl refl e
+passed bs f e = passed-by bs f (leb (length bs) 65536) (trailerRight bs) (inRange (paramsOf bs)) refl refl refl e
 
 pub steps-in-turn : StepsInTurn
 steps-in-turn bs f e = (
@@ -72,6 +80,8 @@ steps-in-turn bs f e = (
     whole = λ j h. step-inside bs (f .first + 12 * j) (le-leb (f .first + 12 * j + 12) (length bs) (omega (arith, ends)));
     ends = ends;
     short = passed bs f e .short;
+    room = omega (arith, first, ends);
+    few = omega (arith, first, ends, passed bs f e .short);
   },
 )
   where

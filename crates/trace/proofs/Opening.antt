@@ -8,7 +8,7 @@ use lib.ListN.{length}
 use lib.Dec.{leb, eqb}
 use borrow.Author.Tests.{le-leb, lt-leb, leb-true, leb-false, eqb-true, eq-eqb}
 use Rattle.lists.proofs.Bools.{both}
-use Rattle.fresh.specs.Ranges.{inRange}
+use Rattle.layout.specs.Ranges.{inRange}
 use Rattle.trace.specs.Bytes.{markAt, stepIn, noStep, stepAt}
 use Rattle.trace.specs.Trace.{refused, given, trailerAt, countOf, distanceOf, trailerRight, paramsOf}
 use Rattle.trace.specs.Trace.{questioned}

@@ -9,8 +9,8 @@ use borrow.Author.Tests.{le-leb}
 use Rattle.lists.specs.Tests.{All}
 use Rattle.model.specs.Params.{Params}
 use Rattle.model.specs.State.{Step}
-use Rattle.fresh.specs.Ranges.{inRange}
-use Rattle.fresh.proofs.Ranges.{in-range}
+use Rattle.layout.specs.Ranges.{inRange}
+use Rattle.layout.proofs.Ranges.{in-range}
 use Rattle.trace.specs.Bytes.{wordAt, markAt, paramsAt, stepIn, stepAt, stepsFrom}
 use Rattle.trace.specs.Trace.{given, Trace, traceAt, traceOf, trailerAt, countOf, distanceOf, trailerRight}
 use Rattle.trace.specs.Trace.{startOf}

@@ -8,7 +8,7 @@ use lib.ListN.{length, length-append}
 use lib.Seq.{getD-append-add}
 use lib.Dec.{leb, eqb}
 use borrow.Author.Tests.{le-leb, lt-leb, leb-true, leb-false}
-use Rattle.fresh.specs.Ranges.{inRange}
+use Rattle.layout.specs.Ranges.{inRange}
 use Rattle.trace.specs.Bytes.{byteAt, wordAt, markAt, paramsAt, stepIn, noStep, stepAt, stepsFrom}
 use Rattle.trace.specs.Trace.{given, ask, Trace, traceAt, traceOf, trailerRight, trailerAt, countOf}
 use Rattle.trace.specs.Trace.{distanceOf, startOf, paramsOf, firstOf, stepsOf, questioned}

@@ -7,6 +7,8 @@ use lib.ListN.{length, getD}
 use lib.Dec.{leb, eqb}
 use Rattle.model.specs.Params.{Params}
 use Rattle.model.specs.State.{Step}
+use Rattle.trace.specs.Widths.{hazardsByte, nodesByte, visibilityByte, quiescenceByte, fallbackByte}
+use Rattle.trace.specs.Widths.{processByte, hazardByte, nodeByte, guestByte, stepSize}
 
 abbrev pub byteAt : List ℕ → ℕ → ℕ
 byteAt bs i = getD bs i 0
@@ -28,11 +30,11 @@ unfoldable pub paramsAt : List ℕ → ℕ → Params
 paramsAt bs i =
     record {
       processes = wordAt bs i;
-      hazards = wordAt bs (i + 4);
-      nodes = wordAt bs (i + 8);
-      visibilityBound = wordAt bs (i + 12);
-      quiescenceThreshold = wordAt bs (i + 16);
-      fallbackThreshold = wordAt bs (i + 20);
+      hazards = wordAt bs (i + hazardsByte);
+      nodes = wordAt bs (i + nodesByte);
+      visibilityBound = wordAt bs (i + visibilityByte);
+      quiescenceThreshold = wordAt bs (i + quiescenceByte);
+      fallbackThreshold = wordAt bs (i + fallbackByte);
     }
 
 -- the step in the 12 bytes from i on: kind, process (worker) and hazard (slot) a byte each, a byte that is not read, node (card) and guest
@@ -41,10 +43,10 @@ unfoldable pub stepIn : List ℕ → ℕ → Step
 stepIn bs i =
     record {
       kind = byteAt bs i;
-      process = byteAt bs (i + 1);
-      hazard = byteAt bs (i + 2);
-      node = wordAt bs (i + 4);
-      guest = wordAt bs (i + 8);
+      process = byteAt bs (i + processByte);
+      hazard = byteAt bs (i + hazardByte);
+      node = wordAt bs (i + nodeByte);
+      guest = wordAt bs (i + guestByte);
     }
 
 abbrev pub noStep : Step
@@ -52,9 +54,9 @@ noStep = record { kind = 0; process = 0; hazard = 0; node = 0; guest = 0 }
 
 -- the step at any offset: zeros where the bytes end before it does
 unfoldable pub stepAt : List ℕ → ℕ → Step
-stepAt bs i = cond (leb (i + 12) (length bs)) (stepIn bs i) noStep
+stepAt bs i = cond (leb (i + stepSize) (length bs)) (stepIn bs i) noStep
 
 -- so many steps, one after another, the first at i
 unfoldable pub stepsFrom : List ℕ → ℕ → ℕ → List Step
 stepsFrom bs i zero = []
-stepsFrom bs i (suc n) = stepAt bs i ∷ stepsFrom bs (i + 12) n
+stepsFrom bs i (suc n) = stepAt bs i ∷ stepsFrom bs (i + stepSize) n

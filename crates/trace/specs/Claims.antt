@@ -6,15 +6,20 @@ use mathlib.Core.List.{List, _++_}
 use mathlib.Core.Path.{_≡_}
 use lib.ListN.{length, getD, set}
 use Rattle.lists.specs.Tests.{All}
-use Rattle.fresh.specs.Ranges.{inRange}
+use Rattle.layout.specs.Ranges.{inRange}
+use Rattle.trace.specs.Widths.{mostBytes, mostSteps, unreadByte, stepSize, trailerSize, leastSize}
 use Rattle.trace.specs.Bytes.{noStep, stepIn, stepAt, stepsFrom}
 use Rattle.trace.specs.Trace.{Reading, refused, given, Front, frontOf, Trace, traceOf, trailerRight}
 use Rattle.trace.specs.Written.{StepFits, traceBytes}
 
+-- the trace that a front leads to
+abbrev pub ledFrom : List ℕ → Front → Trace
+ledFrom bs f = record { params = f .params; steps = stepsFrom bs (f .first) (f .count) }
+
 -- the trace whose front is known
 abbrev pub traceFrom : List ℕ → Reading Front → Reading Trace
 traceFrom bs (refused n) = refused n
-traceFrom bs (given f) = given (record { params = f .params; steps = stepsFrom bs (f .first) (f .count) })
+traceFrom bs (given f) = given (ledFrom bs f)
 
 -- what opening finds leads to the trace: the same number, or the same parameters and the steps from the first on
 abbrev pub FrontLeads : Type 0
@@ -24,12 +29,15 @@ FrontLeads = (bs : List ℕ) → traceOf bs ≡ traceFrom bs (frontOf bs)
 pub record InTurn (bs : List ℕ) (f : Front) (t : Trace) : Type 0 where
   pub params : t .params ≡ f .params
   pub many : length (t .steps) ≡ f .count
-  -- step j is what the code's step_at answers at first + 12 × j, and its bytes are all there
-  pub each : (j : ℕ) → j < f .count → getD (t .steps) j noStep ≡ stepAt bs (f .first + 12 * j)
-  pub whole : (j : ℕ) → j < f .count → stepAt bs (f .first + 12 * j) ≡ stepIn bs (f .first + 12 * j)
+  -- step j is what the code's step_at answers at first + stepSize × j, and its bytes are all there
+  pub each : (j : ℕ) → j < f .count → getD (t .steps) j noStep ≡ stepAt bs (f .first + stepSize * j)
+  pub whole : (j : ℕ) → j < f .count → stepAt bs (f .first + stepSize * j) ≡ stepIn bs (f .first + stepSize * j)
   -- the trailer follows the last step
-  pub ends : f .first + 12 * f .count + 12 ≡ length bs
-  pub short : length bs ≤ 65536
+  pub ends : f .first + stepSize * f .count + trailerSize ≡ length bs
+  pub short : length bs ≤ mostBytes
+  -- so many steps need so many bytes, and there are never more than the most
+  pub room : leastSize + stepSize * f .count ≤ length bs
+  pub few : f .count ≤ mostSteps
 
 -- a caller that reads step_at for each j below the count reads the steps of the trace, in turn
 abbrev pub StepsInTurn : Type 0
@@ -38,14 +46,14 @@ StepsInTurn = (bs : List ℕ) (f : Front) → frontOf bs ≡ given f → (t : Tr
 -- earlier bytes are not read: a trace with other bytes before it is the same trace
 abbrev pub EarlierUnread : Type 0
 EarlierUnread =
-    (before bs : List ℕ) → trailerRight bs ≡ true → length (before ++ bs) ≤ 65536 → traceOf (before ++ bs) ≡ traceOf bs
+    (before bs : List ℕ) → trailerRight bs ≡ true → length (before ++ bs) ≤ mostBytes → traceOf (before ++ bs) ≡ traceOf bs
 
 -- the fourth byte of a step is not read
 abbrev pub FourthUnread : Type 0
-FourthUnread = (bs : List ℕ) (i v : ℕ) → stepAt (set bs (i + 3) v) i ≡ stepAt bs i
+FourthUnread = (bs : List ℕ) (i v : ℕ) → stepAt (set bs (i + unreadByte) v) i ≡ stepAt bs i
 
 -- a trace that fits is read back as it was written
 abbrev pub WrittenRead : Type 0
 WrittenRead =
-    (t : Trace) → inRange (t .params) ≡ true → All StepFits (t .steps) → 36 + 12 * length (t .steps) ≤ 65536
+    (t : Trace) → inRange (t .params) ≡ true → All StepFits (t .steps) → leastSize + stepSize * length (t .steps) ≤ mostBytes
     → traceOf (traceBytes t) ≡ given t

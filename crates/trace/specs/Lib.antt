@@ -1,4 +1,5 @@
 -- What the contracts of `trace` cite.
+pub mod Widths
 pub mod Bytes
 pub mod Trace
 pub mod Values

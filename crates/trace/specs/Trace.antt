@@ -7,7 +7,8 @@ use lib.ListN.{length}
 use lib.Dec.{leb, eqb}
 use Rattle.model.specs.Params.{Params}
 use Rattle.model.specs.State.{Step}
-use Rattle.fresh.specs.Ranges.{inRange}
+use Rattle.layout.specs.Ranges.{inRange}
+use Rattle.trace.specs.Widths.{mostBytes, paramsSize, stepSize, distanceByte, markByte, trailerSize, leastSize}
 use Rattle.trace.specs.Bytes.{wordAt, markAt, paramsAt, stepsFrom}
 
 -- what comes of reading: the number of the first question with the answer no, or what was read
@@ -23,7 +24,7 @@ ask false n r = refused n
 -- ---- the trailer: the last 12 bytes
 
 abbrev pub trailerAt : List ℕ → ℕ
-trailerAt bs = length bs - 12
+trailerAt bs = length bs - trailerSize
 
 -- how many steps
 abbrev pub countOf : List ℕ → ℕ
@@ -31,14 +32,14 @@ countOf bs = wordAt bs (trailerAt bs)
 
 -- the distance back from the end of the bytes to the parameters
 abbrev pub distanceOf : List ℕ → ℕ
-distanceOf bs = wordAt bs (trailerAt bs + 4)
+distanceOf bs = wordAt bs (trailerAt bs + distanceByte)
 
 -- it fits, the mark matches, the distance is 36 + 12 × count and not beyond the start
 unfoldable pub trailerRight : List ℕ → Bool
 trailerRight bs =
-    leb 12 (length bs)
-    && (markAt bs (trailerAt bs + 8)
-    && (eqb (distanceOf bs) (36 + 12 * countOf bs)
+    leb trailerSize (length bs)
+    && (markAt bs (trailerAt bs + markByte)
+    && (eqb (distanceOf bs) (leastSize + stepSize * countOf bs)
     && leb (distanceOf bs) (length bs)))
 
 -- ---- the parameters, and the steps after their 24 bytes
@@ -50,7 +51,7 @@ abbrev pub paramsOf : List ℕ → Params
 paramsOf bs = paramsAt bs (startOf bs)
 
 abbrev pub firstOf : List ℕ → ℕ
-firstOf bs = startOf bs + 24
+firstOf bs = startOf bs + paramsSize
 
 abbrev pub stepsOf : List ℕ → List Step
 stepsOf bs = stepsFrom bs (firstOf bs) (countOf bs)
@@ -59,7 +60,7 @@ stepsOf bs = stepsFrom bs (firstOf bs) (countOf bs)
 
 unfoldable pub questioned : {A : Type 0} → List ℕ → A → Reading A
 questioned bs a =
-    ask (leb (length bs) 65536) 18 (ask (trailerRight bs) 19 (ask (inRange (paramsOf bs)) 1 (given a)))
+    ask (leb (length bs) mostBytes) 18 (ask (trailerRight bs) 19 (ask (inRange (paramsOf bs)) 1 (given a)))
 
 -- a trace: its parameters and its steps
 pub record Trace : Type 0 where

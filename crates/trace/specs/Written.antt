@@ -4,6 +4,7 @@ use mathlib.Core.List.{List, [], _∷_, _++_}
 use lib.ListN.{length}
 use Rattle.model.specs.Params.{Params}
 use Rattle.model.specs.State.{Step}
+use Rattle.trace.specs.Widths.{stepSize, leastSize}
 use Rattle.trace.specs.Trace.{Trace}
 
 -- a number in 4 bytes, the lowest first
@@ -28,7 +29,7 @@ stepsBytes (s ∷ ss) = stepBytes s ++ stepsBytes ss
 
 -- the count of the steps, the distance back to the parameters, QBAK
 unfoldable pub trailerBytes : ℕ → List ℕ
-trailerBytes n = wordBytes n ++ (wordBytes (36 + 12 * n) ++ (81 ∷ 66 ∷ 65 ∷ 75 ∷ []))
+trailerBytes n = wordBytes n ++ (wordBytes (leastSize + stepSize * n) ++ (81 ∷ 66 ∷ 65 ∷ 75 ∷ []))
 
 unfoldable pub traceBytes : Trace → List ℕ
 traceBytes t = paramsBytes (t .params) ++ (stepsBytes (t .steps) ++ trailerBytes (length (t .steps)))

@@ -1,23 +1,20 @@
 // A trace (the paper's step book) read from its trailer back, on a slice of bytes and an offset. Any bytes and any offset will do.
+pub mod widths;
+
 use layout::Params;
+use widths::most;
+use widths::params_byte;
+use widths::step_byte;
+use widths::trailer_byte;
 ghost use mathlib.Core.Path.{_≡_};
 ghost use Prim.Native.Nat.{_+_, _<_, _≤_};
 ghost use lib.ListN.{length};
 ghost use lib.Dec.{leb};
 ghost use Rattle.layout.specs.Values.{paramsValue};
+ghost use Rattle.trace.specs.Widths.{byteRange, wordSize, paramsSize, stepSize, leastSize};
 ghost use Rattle.trace.specs.Bytes.{wordAt, markAt, paramsAt, stepIn, stepAt};
 ghost use Rattle.trace.specs.Trace.{distanceOf, trailerRight, frontAt, frontOf};
 ghost use Rattle.trace.specs.Values.{stepValue, headerValue, openedValue, refusalOf};
-
-// The most bytes of a trace.
-const LIMIT: usize = 65536;
-
-// The bytes of its six parameters, of a step, and of the trailer.
-const PARAMS_SIZE: usize = 24;
-
-const STEP_SIZE: usize = 12;
-
-const TRAILER_SIZE: usize = 12;
 
 // The five numbers of a step. process, hazard and node (the paper's worker, slot and card) are counted from 0.
 pub struct Step {
@@ -48,14 +45,14 @@ pub enum Opened {
 
 // A byte as a number.
 fn wide(x: u8) -> u32
-    ensures { λ r. ⌜ (r ≡ x) × (r < 256) ⌝ }
+    ensures { λ r. ⌜ (r ≡ x) × (r < byteRange) ⌝ }
 {
     x as u32
 }
 
 // The number of the four bytes from at on, the lowest first.
 fn word_at(bytes: &[u8], at: usize) -> u32
-    requires { ⌜ at + 4 ≤ length (now bytes) ⌝ }
+    requires { ⌜ at + wordSize ≤ length (now bytes) ⌝ }
     ensures { λ r. ⌜ r ≡ wordAt (now (bytes .entry)) at ⌝ }
 {
     wide(bytes[at])
@@ -66,7 +63,7 @@ fn word_at(bytes: &[u8], at: usize) -> u32
 
 // Do the bytes QBAK stand from at on?
 fn mark_at(bytes: &[u8], at: usize) -> bool
-    requires { ⌜ at + 4 ≤ length (now bytes) ⌝ }
+    requires { ⌜ at + wordSize ≤ length (now bytes) ⌝ }
     ensures { λ r. ⌜ r ≡ markAt (now (bytes .entry)) at ⌝ }
 {
     (bytes[at] == b'Q')
@@ -85,16 +82,16 @@ pub fn holds(bytes: &[u8], at: usize, size: usize) -> bool
 
 // The six parameters from at on.
 fn params_at(bytes: &[u8], at: usize) -> Params
-    requires { ⌜ at + 24 ≤ length (now bytes) ⌝ }
+    requires { ⌜ at + paramsSize ≤ length (now bytes) ⌝ }
     ensures { λ r. ⌜ paramsValue r ≡ paramsAt (now (bytes .entry)) at ⌝ }
 {
     Params {
         processes: word_at(bytes, at),
-        hazards: word_at(bytes, at + 4),
-        nodes: word_at(bytes, at + 8),
-        visibility: word_at(bytes, at + 12),
-        quiescence: word_at(bytes, at + 16),
-        fallback: word_at(bytes, at + 20),
+        hazards: word_at(bytes, at + params_byte::HAZARDS),
+        nodes: word_at(bytes, at + params_byte::NODES),
+        visibility: word_at(bytes, at + params_byte::VISIBILITY),
+        quiescence: word_at(bytes, at + params_byte::QUIESCENCE),
+        fallback: word_at(bytes, at + params_byte::FALLBACK),
     }
 }
 
@@ -102,29 +99,30 @@ fn params_at(bytes: &[u8], at: usize) -> Params
 fn trailer_right(bytes: &[u8]) -> bool
     ensures { λ r. ⌜ r ≡ trailerRight (now (bytes .entry)) ⌝ }
 {
-    if bytes.len() < TRAILER_SIZE {
+    if bytes.len() < trailer_byte::WIDTH {
         return false;
     }
-    let at = bytes.len() - TRAILER_SIZE;
+    let at = bytes.len() - trailer_byte::WIDTH;
     let count = layout::wide(word_at(bytes, at));
-    let distance = layout::wide(word_at(bytes, at + 4));
-    mark_at(bytes, at + 8)
-        & ((distance == PARAMS_SIZE + TRAILER_SIZE + STEP_SIZE * count) & (distance <= bytes.len()))
+    let distance = layout::wide(word_at(bytes, at + trailer_byte::DISTANCE));
+    mark_at(bytes, at + trailer_byte::MARK)
+        & ((distance == params_byte::WIDTH + trailer_byte::WIDTH + step_byte::WIDTH * count)
+            & (distance <= bytes.len()))
 }
 
 // Reads what stands before the steps.
 fn header_of(bytes: &[u8]) -> Header
-    requires { ⌜ (36 ≤ distanceOf (now bytes)) × (distanceOf (now bytes) ≤ length (now bytes)) ⌝ }
+    requires { ⌜ (leastSize ≤ distanceOf (now bytes)) × (distanceOf (now bytes) ≤ length (now bytes)) ⌝ }
     ensures { λ r. ⌜ headerValue r ≡ frontAt (now (bytes .entry)) ⌝ }
 {
-    let at = bytes.len() - TRAILER_SIZE;
+    let at = bytes.len() - trailer_byte::WIDTH;
     let count = word_at(bytes, at);
-    let start = bytes.len() - layout::wide(word_at(bytes, at + 4));
+    let start = bytes.len() - layout::wide(word_at(bytes, at + trailer_byte::DISTANCE));
     let params = params_at(bytes, start);
     Header {
         params,
         count,
-        first: start + PARAMS_SIZE,
+        first: start + params_byte::WIDTH,
     }
 }
 
@@ -133,7 +131,7 @@ fn header_of(bytes: &[u8]) -> Header
 pub fn open_trace(bytes: &[u8]) -> Opened
     ensures { λ r. ⌜ openedValue r ≡ frontOf (now (bytes .entry)) ⌝ }
 {
-    if LIMIT < bytes.len() {
+    if most::BYTES < bytes.len() {
         return Opened::TooLong;
     }
     if !trailer_right(bytes) {
@@ -141,7 +139,7 @@ pub fn open_trace(bytes: &[u8]) -> Opened
     }
     let header = header_of(bytes);
     let params = header.params;
-    if !fresh::in_range(params) {
+    if !layout::fresh::in_range(params) {
         return Opened::OutOfRange;
     }
     Opened::Found(header)
@@ -161,23 +159,23 @@ pub fn refusal(opened: Opened) -> u32
 
 // The step in the 12 bytes from at on, of which the fourth is not read.
 fn step_inside(bytes: &[u8], at: usize) -> Step
-    requires { ⌜ at + 12 ≤ length (now bytes) ⌝ }
-    ensures { λ r. ⌜ stepValue r ≡ stepIn (now (bytes .entry)) at ⌝ }
+    requires { ⌜ at + stepSize ≤ length (now bytes) ⌝ }
+    ensures { λ r. ⌜ (stepValue r ≡ stepIn (now (bytes .entry)) at) × (r .kind < byteRange) ⌝ }
 {
     Step {
         kind: wide(bytes[at]),
-        process: wide(bytes[at + 1]),
-        hazard: wide(bytes[at + 2]),
-        node: word_at(bytes, at + 4),
-        guest: word_at(bytes, at + 8),
+        process: wide(bytes[at + step_byte::PROCESS]),
+        hazard: wide(bytes[at + step_byte::HAZARD]),
+        node: word_at(bytes, at + step_byte::NODE),
+        guest: word_at(bytes, at + step_byte::GUEST),
     }
 }
 
 // The step that stands at an offset; zeros where the bytes end before it does.
 pub fn step_at(bytes: &[u8], at: usize) -> Step
-    ensures { λ r. ⌜ stepValue r ≡ stepAt (now (bytes .entry)) at ⌝ }
+    ensures { λ r. ⌜ (stepValue r ≡ stepAt (now (bytes .entry)) at) × (r .kind < byteRange) ⌝ }
 {
-    if !holds(bytes, at, STEP_SIZE) {
+    if !holds(bytes, at, step_byte::WIDTH) {
         return Step {
             kind: 0,
             process: 0,

@@ -1,50 +1,75 @@
 -- What a head in its ranges and the right length give the check of processes and nodes, and what the first tests say of the whole.
 -- Assumes nothing.
-use Prim.Native.Nat.{ℕ, _+_, _*_, _<_}
+use Prim.Native.Nat.{ℕ, _+_, _-_, _<_, _≤_}
 use mathlib.Core.Bool.{Bool, true, false, _&&_, and-false}
 use mathlib.Core.List.{List}
-use mathlib.Core.Path.{_≡_}
+use mathlib.Core.Path.{_≡_, ap, _∙_}
 use native.Mathlib.Omega.{arith}
 use borrow.Author.Tests.{eq-eqb, ne-eqb}
-use lib.ListN.{length}
-use Rattle.layout.specs.Shape.{word, nodesStart}
-use Rattle.layout.specs.Codecs.{shape}
+use lib.ListN.{length, take, drop, length-take, length-drop}
+use lib.Seq.{take-all}
+use Rattle.model.specs.Params.{Params, mostNodes}
+use Rattle.layout.specs.Shape.{Head, nodesStart, wordCountBy}
+use Rattle.layout.specs.Encode.{shape, nodesPart}
+use Rattle.layout.specs.Nodes.{nodesFit}
+use Rattle.layout.specs.Words.{headFits, processesFit, wellFormedBy, wellFormed}
 use Rattle.layout.proofs.Room.{rows-small}
 use Rattle.layout.proofs.Checked.{head-facts}
-use Rattle.layout.specs.Words.{headFits, processesFit, nodesFit, wellFormed}
-use Rattle.process_check.specs.ProcessLimits.{Ready}
+use Rattle.nodes.specs.Part.{Part}
+use Rattle.wellformed.specs.ProcessLimits.{Ready}
 
-pub ready : (ws : List ℕ) → headFits ws ≡ true → length ws ≡ nodesStart shape (word ws 0) (word ws 1) + 5 * word ws 2 → Ready ws
-ready ws h e =
-    let r = head-facts ws h .params in
-    record {
-      sizes = record {
-        processes = r .processes;
-        hazards = r .hazards;
-        nodes = r .nodes;
-        rows = rows-small (word ws 0) (word ws 1) (r .processes .1) (r .hazards .1);
-        long = e;
-      };
-      quiescence = r .quiescenceThreshold .0;
-    }
-
--- the four ways out of the check
 module _ (ws : List ℕ) where
-  pub too-short : length ws < 9 → false ≡ wellFormed ws
-  unfolding wellFormed
-  too-short h =
-      let e : length ws ≡ 9 + word ws 0 * (28 + 3 * word ws 1) + 5 * word ws 2 → ⊥ = λ e. omega arith in
-      rw (ne-eqb (length ws) (9 + word ws 0 * (28 + 3 * word ws 1) + 5 * word ws 2) e, and-false (headFits ws))
+  abbrev h₀ : Head
+  h₀ = shape .head .get ws
 
-  pub bad-head : headFits ws ≡ false → false ≡ wellFormed ws
-  unfolding wellFormed
+  abbrev a₀ : Params
+  a₀ = shape .head .get ws .params
+
+  pub ready : headFits h₀ ≡ true → length ws ≡ wordCountBy shape a₀ → Ready ws
+  ready h e =
+      let r = head-facts h₀ h .params in
+      record {
+        sizes = record {
+          processes = r .processes;
+          hazards = r .hazards;
+          nodes = r .nodes;
+          rows = rows-small shape (a₀ .processes) (a₀ .hazards) (r .processes .1) (r .hazards .1);
+          long = e;
+        };
+        quiescence = r .quiescenceThreshold .0;
+      }
+
+  -- the four ways out of the check
+  pub bad-length : (length ws ≡ wordCountBy shape a₀ → ⊥) → false ≡ wellFormed ws
+  unfolding wellFormedBy
+  bad-length h = rw (ne-eqb (length ws) (wordCountBy shape a₀) h, and-false (headFits h₀))
+
+  pub too-short : length ws < shape .headWidth → false ≡ wellFormed ws
+  too-short h = bad-length (λ e. omega arith)
+
+  pub bad-head : headFits h₀ ≡ false → false ≡ wellFormed ws
+  unfolding wellFormedBy
   bad-head h = rw h
 
-  pub bad-length : (length ws ≡ nodesStart shape (word ws 0) (word ws 1) + 5 * word ws 2 → ⊥) → false ≡ wellFormed ws
-  unfolding wellFormed
-  bad-length h = rw (ne-eqb (length ws) (9 + word ws 0 * (28 + 3 * word ws 1) + 5 * word ws 2) h, and-false (headFits ws))
+  pub all-fits : (x y : Bool) → headFits h₀ ≡ true → length ws ≡ wordCountBy shape a₀ → x ≡ processesFit ws
+      → y ≡ nodesFit (a₀ .processes) (h₀ .clock) (a₀ .nodes) (nodesPart ws) → (x && y) ≡ wellFormed ws
+  unfolding wellFormedBy
+  all-fits x y h e hx hy = rw (hx, hy, h, eq-eqb (length ws) (wordCountBy shape a₀) e)
 
-  pub all-fits : (x y : Bool) → headFits ws ≡ true → length ws ≡ nodesStart shape (word ws 0) (word ws 1) + 5 * word ws 2
-      → x ≡ processesFit ws → y ≡ nodesFit ws → (x && y) ≡ wellFormed ws
-  unfolding wellFormed
-  all-fits x y h e hx hy = rw (hx, hy, h, eq-eqb (length ws) (9 + word ws 0 * (28 + 3 * word ws 1) + 5 * word ws 2) e)
+  -- the nodes' part, from a on, as it is lent
+  module _ {a : ℕ} (e : a ≡ nodesStart shape (a₀ .processes) (a₀ .hazards)) where
+    part-is : take (length ws - a) (drop a ws) ≡ nodesPart ws
+    part-is =
+        take-all (length ws - a) (drop a ws) (simp length-drop (omega arith)) ∙ ap (λ (b : ℕ). drop b ws) e
+
+    pub nodes-are : nodesFit (a₀ .processes) (h₀ .clock) (a₀ .nodes) (take (length ws - a) (drop a ws))
+        ≡ nodesFit (a₀ .processes) (h₀ .clock) (a₀ .nodes) (nodesPart ws)
+    nodes-are = ap (nodesFit (a₀ .processes) (h₀ .clock) (a₀ .nodes)) part-is
+
+    pub nodes-lent : a₀ .nodes ≤ mostNodes → length ws ≡ wordCountBy shape a₀ → Part (a₀ .nodes) (take (length ws - a) (drop a ws))
+    nodes-lent few long =
+        record { few = few; long = simp (length-take, length-drop) (omega arith) }
+
+  -- the length that the code compares with
+  pub words-long : {a w : ℕ} → a ≡ nodesStart shape (a₀ .processes) (a₀ .hazards) → w ≡ shape .nodes .width (a₀ .nodes) → a + w ≡ wordCountBy shape a₀
+  words-long ea ew = λ t. ea t + ew t

@@ -1,1 +1,3 @@
+pub mod Tables
+pub mod ProcessWithin
 pub mod Head

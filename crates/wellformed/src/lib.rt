@@ -1,35 +1,50 @@
-// Whether words are those of a well-formed domain.
+// Whether words are those of a well-formed domain: the head and the length here, the processes in a module, the nodes in crate `nodes`.
+pub mod processes;
+
+use layout::words::head_word;
+use layout::words::most;
+use layout::words::paths;
 ghost use mathlib.Core.Path.{_≡_};
 ghost use Prim.Native.Nat.{_≤_};
 ghost use lib.ListN.{length};
+ghost use Rattle.layout.specs.Encode.{shape};
 ghost use Rattle.layout.specs.Words.{headFits, wellFormed};
 
 // Whether the head's words are in their ranges.
 fn head_fits(words: &[u32]) -> bool
-    requires { ⌜ 9 ≤ length (now words) ⌝ }
-    ensures { λ r. ⌜ r ≡ headFits (now (words .entry)) ⌝ }
+    requires { ⌜ shape .headWidth ≤ length (now words) ⌝ }
+    ensures { λ r. ⌜ r ≡ headFits (shape .head .get (now (words .entry))) ⌝ }
 {
-    ((1 <= words[0]) & (words[0] <= 16))
-        & (((1 <= words[1]) & (words[1] <= 8))
-            & (((1 <= words[2]) & (words[2] <= 256))
-                & (((1 <= words[3]) & (words[3] <= 1000))
-                    & (((1 <= words[4]) & (words[4] <= 1000))
-                        & (((1 <= words[5]) & (words[5] <= 256))
-                            & ((words[6] <= 4294967295) & ((words[7] <= 1) & (words[8] <= 2))))))))
+    ((1 <= words[head_word::PROCESSES]) & (words[head_word::PROCESSES] <= most::PROCESSES))
+        & (((1 <= words[head_word::HAZARDS]) & (words[head_word::HAZARDS] <= most::HAZARDS))
+            & (((1 <= words[head_word::NODES]) & (words[head_word::NODES] <= most::NODES))
+                & (((1 <= words[head_word::VISIBILITY])
+                    & (words[head_word::VISIBILITY] <= most::VISIBILITY))
+                    & (((1 <= words[head_word::QUIESCENCE])
+                        & (words[head_word::QUIESCENCE] <= most::QUIESCENCE))
+                        & (((1 <= words[head_word::FALLBACK])
+                            & (words[head_word::FALLBACK] <= most::FALLBACK))
+                            & ((words[head_word::CLOCK] <= most::CLOCK)
+                                & ((words[head_word::PATH] <= paths::FALLBACK)
+                                    & (words[head_word::EPOCH] <= most::EPOCH))))))))
 }
 
 // Whether the words are those of a well-formed domain.
 pub fn well_formed(words: &[u32]) -> bool
     ensures { λ r. ⌜ r ≡ wellFormed (now (words .entry)) ⌝ }
 {
-    if words.len() < 9 {
+    if words.len() < head_word::WIDTH {
         return false;
     }
     if !head_fits(words) {
         return false;
     }
-    if words.len() != layout::process_start(words[1], words[0]) + 5 * layout::wide(words[2]) {
+    let n = words[head_word::PROCESSES];
+    let m = words[head_word::NODES];
+    let a = layout::process_start(words[head_word::HAZARDS], n);
+    if words.len() != a + layout::nodes_width(m) {
         return false;
     }
-    process_check::processes_fit(words) & node_check::nodes_fit(words)
+    let clock = words[head_word::CLOCK];
+    processes::processes_fit(words) & nodes::fits::nodes_fit(&words[a..], m, n, clock)
 }

@@ -1,10 +1,9 @@
 //! A domain as records: document 01's desk, without its words.
 
+use crate::layout::{BUFFER, LEAD};
 use crate::params::Params;
+use crate::step::State;
 use std::collections::VecDeque;
-
-/// Greatest number of pending stores of a process.
-pub const BUFFER: usize = 8;
 
 #[derive(Clone, Debug, PartialEq)]
 pub struct Domain {
@@ -26,7 +25,7 @@ pub enum Path {
 pub struct Process {
     pub epoch: u32,
     pub calls: u32,
-    pub present: bool,
+    pub presence: bool,
     pub hazards: Vec<Hazard>,
     pub buffer: VecDeque<Store>,
 }
@@ -73,12 +72,46 @@ impl Node {
         }
     }
 
+    pub fn state(&self) -> State {
+        match self {
+            Node::Free => State::Free,
+            Node::Allocated { .. } => State::Allocated,
+            Node::Reachable { .. } => State::Reachable,
+            Node::Removed { .. } => State::Removed,
+            Node::Retired { .. } => State::Retired,
+        }
+    }
+
     pub fn is_retired(&self) -> bool {
-        matches!(self, Node::Retired { .. })
+        self.state() == State::Retired
     }
 }
 
 impl Process {
+    /// The words before the hazards, of a fresh domain.
+    const FRESH: [u32; LEAD] = [0; LEAD];
+
+    /// Its words before its hazards.
+    pub fn lead(&self) -> [u32; LEAD] {
+        [self.epoch, self.calls, self.presence as u32, self.buffer.len() as u32]
+    }
+
+    /// The greatest value of each.
+    pub fn lead_limits(params: Params) -> [u32; LEAD] {
+        [2, params.quiescence_threshold - 1, 1, BUFFER as u32]
+    }
+
+    /// A process with these words, K empty hazards, and so many stores to come.
+    pub fn of_lead(params: Params, [epoch, calls, presence, stores]: [u32; LEAD]) -> Process {
+        Process {
+            epoch,
+            calls,
+            presence: presence == 1,
+            hazards: vec![Hazard::default(); params.hazards as usize],
+            buffer: VecDeque::with_capacity(stores as usize),
+        }
+    }
+
     pub fn has_assigned(&self) -> bool {
         self.hazards.iter().any(|hazard| hazard.assigned.is_some())
     }
@@ -86,19 +119,12 @@ impl Process {
 
 impl Domain {
     pub fn fresh(params: Params) -> Domain {
-        let process = Process {
-            epoch: 0,
-            calls: 0,
-            present: false,
-            hazards: vec![Hazard::default(); params.hazards as usize],
-            buffer: VecDeque::new(),
-        };
         Domain {
             params,
             clock: 0,
             path: Path::Fast,
             epoch: 0,
-            processes: vec![process; params.processes as usize],
+            processes: vec![Process::of_lead(params, Process::FRESH); params.processes as usize],
             nodes: vec![Node::Free; params.nodes as usize],
         }
     }
@@ -121,6 +147,6 @@ impl Domain {
 
     /// The panel's number.
     pub fn reachable(&self) -> u32 {
-        self.nodes.iter().filter(|node| matches!(node, Node::Reachable { .. })).count() as u32
+        self.nodes.iter().filter(|node| node.state() == State::Reachable).count() as u32
     }
 }

@@ -131,10 +131,10 @@ impl Model {
         if process.calls != 0 {
             return 0;
         }
-        process.present = true;
+        process.presence = true;
         if self.domain.path == Path::Fallback {
-            let all_present = self.domain.processes.iter().all(|process| process.present);
-            if !all_present && !self.rules.have(Mistake::ReturnsWithoutPresence) {
+            let all_checked_in = self.domain.processes.iter().all(|process| process.presence);
+            if !all_checked_in && !self.rules.have(Mistake::ReturnsWithoutPresence) {
                 return 0;
             }
             self.domain.path = Path::Fast;
@@ -158,7 +158,7 @@ impl Model {
 
     fn clear_presence(&mut self) {
         for process in &mut self.domain.processes {
-            process.present = false;
+            process.presence = false;
         }
     }
 }

@@ -58,6 +58,16 @@ mistakes! {
 }
 
 impl Mistake {
+    /// Of those in the order of the questions, the number that is asked too early, and the one that should come before it.
+    pub fn early(self) -> Option<(u32, u32)> {
+        match self {
+            Mistake::AsksOwnerBeforeState => Some((9, 8)),
+            Mistake::AsksAgeBeforeClock => Some((16, 15)),
+            Mistake::AsksBufferBeforeNode => Some((13, 7)),
+            _ => None,
+        }
+    }
+
     /// Those that the reference must object to: a node freed under a process that has validated it, a check or a use that is wrong.
     pub const UNSAFE: &'static [Mistake] = &[
         Mistake::FreesAtAgeT,
@@ -89,5 +99,9 @@ impl Rules {
 
     pub fn have(self, mistake: Mistake) -> bool {
         self.mistake == Some(mistake)
+    }
+
+    pub fn early(self) -> Option<(u32, u32)> {
+        self.mistake.and_then(Mistake::early)
     }
 }

@@ -3,9 +3,10 @@
 pub mod domain;
 mod effects;
 pub mod mistake;
-mod questions;
+pub mod questions;
 pub mod words;
 
+use crate::layout::{ANSWER, STEP};
 use crate::params::Params;
 use crate::step::{Answer, Kind, Step};
 use domain::Domain;
@@ -50,11 +51,11 @@ pub fn step_words(words: &mut Vec<u32>, step: Step, rules: Rules) -> Answer {
 /// Takes steps on words, five numbers each, and writes their answers, two numbers each, as the library's run does. The words are read
 /// once, before the first step, and written once, after the last. False, and nothing written, where the lengths do not fit.
 pub fn run_words(words: &mut Vec<u32>, steps: &[u32], answers: &mut [u32], rules: Rules) -> bool {
-    if steps.len() % 5 != 0 || answers.len() != steps.len() / 5 * 2 {
+    if !steps.len().is_multiple_of(STEP) || answers.len() != steps.len() / STEP * ANSWER {
         return false;
     }
     let mut model = words::decode(words, rules).map(|domain| Model { rules, domain });
-    for (numbers, answer) in steps.chunks_exact(5).zip(answers.chunks_exact_mut(2)) {
+    for (numbers, answer) in steps.chunks_exact(STEP).zip(answers.chunks_exact_mut(ANSWER)) {
         let step = Step::from_numbers(numbers.try_into().expect("five numbers"));
         let Answer { refusal, value } = model.as_mut().map_or(Answer::refused(3), |model| model.step(step));
         answer.copy_from_slice(&[refusal, value]);

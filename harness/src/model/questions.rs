@@ -1,9 +1,50 @@
 //! Questions 4 to 17, in the paper's order: the first with the answer no gives its number.
 
-use super::domain::{Node, BUFFER};
+use super::domain::Process;
 use super::mistake::Mistake;
 use super::Model;
-use crate::step::{Kind, Step};
+use crate::layout::BUFFER;
+use crate::step::{Field, Kind, State, Step};
+
+/// A question by its number, asked where all before it have the answer yes.
+pub struct Question {
+    pub number: u32,
+    yes: fn(&Model, Kind, Step) -> bool,
+}
+
+const fn ask(number: u32, yes: fn(&Model, Kind, Step) -> bool) -> Question {
+    Question { number, yes }
+}
+
+/// After 3, which is asked of words, and 4, whether the kind is known.
+pub const QUESTIONS: &[Question] = &[
+    ask(5, |model, kind, step| !kind.reads(Field::Process) || step.process < model.domain.params.processes),
+    ask(6, |model, kind, step| !kind.reads(Field::Hazard) || step.hazard < model.domain.params.hazards),
+    ask(7, |model, kind, step| !kind.reads(Field::Node) || step.node < model.domain.params.nodes),
+    ask(8, |model, kind, step| kind.row().needs.is_none_or(|state| model.domain.node(step.node).state() == state)),
+    ask(9, |model, kind, step| !kind.row().owns || model.domain.node(step.node).owner().unwrap_or(0) == step.process),
+    ask(10, |model, kind, step| kind != Kind::Check || model.assigned(step).is_some()),
+    ask(11, |model, kind, step| kind != Kind::Check || model.assigned(step).is_some_and(|node| model.may_check(node))),
+    ask(12, |model, kind, step| kind != Kind::Use || model.domain.hazard(step.process, step.hazard).validated),
+    ask(13, |model, kind, step| !matches!(kind, Kind::Protect | Kind::Clear) || model.of(step).buffer.len() < BUFFER),
+    ask(14, |model, kind, step| kind != Kind::Drain || !model.of(step).buffer.is_empty()),
+    ask(15, |model, kind, _| kind != Kind::Tick || model.domain.clock < u32::MAX),
+    ask(16, |model, kind, _| kind != Kind::Tick || model.all_young()),
+    ask(17, |model, kind, step| {
+        kind != Kind::Manage || !model.of(step).has_assigned() || model.rules.have(Mistake::NoQuestion17)
+    }),
+];
+
+/// The greatest number of a question.
+pub const LAST_QUESTION: usize = {
+    let (mut last, mut place) = (0, 0);
+    while place < QUESTIONS.len() {
+        let number = QUESTIONS[place].number as usize;
+        last = if number > last { number } else { last };
+        place += 1;
+    }
+    last
+};
 
 impl Model {
     /// The number of the first question that is answered no, or 0.
@@ -11,80 +52,36 @@ impl Model {
         let Some(kind) = Kind::from_number(step.kind) else {
             return 4;
         };
-        let params = self.domain.params;
-        if kind.reads_process() && step.process >= params.processes {
-            return 5;
-        }
-        if kind.reads_hazard() && step.hazard >= params.hazards {
-            return 6;
-        }
-        if self.rules.have(Mistake::AsksBufferBeforeNode) && kind == Kind::Protect && self.buffer_is_full(step) {
-            return 13;
-        }
-        if kind.reads_node() && step.node >= params.nodes {
-            return 7;
-        }
-        match kind {
-            Kind::Allocate | Kind::Publish | Kind::Remove | Kind::Retire => self.refusal_of_node(kind, step),
-            Kind::Check => self.refusal_of_check(step),
-            Kind::Use if !self.domain.hazard(step.process, step.hazard).validated => 12,
-            Kind::Protect | Kind::Clear if self.buffer_is_full(step) => 13,
-            Kind::Drain if self.domain.process(step.process).buffer.is_empty() => 14,
-            Kind::Tick => self.refusal_of_tick(),
-            Kind::Manage if self.domain.process(step.process).has_assigned() => {
-                if self.rules.have(Mistake::NoQuestion17) {
-                    0
-                } else {
-                    17
-                }
+        let no = |question: &&Question| !(question.yes)(self, kind, step);
+        let first = QUESTIONS.iter().find(no).map_or(0, |question| question.number);
+        match self.rules.early() {
+            Some((early, late)) if (late..early).contains(&first) => {
+                QUESTIONS.iter().filter(|question| question.number == early).find(no).map_or(first, |_| early)
             }
-            _ => 0,
+            _ => first,
         }
     }
 
-    fn refusal_of_node(&self, kind: Kind, step: Step) -> u32 {
-        let node = self.domain.node(step.node);
-        let fits = match kind {
-            Kind::Allocate => *node == Node::Free,
-            Kind::Publish => matches!(node, Node::Allocated { .. }),
-            Kind::Remove => matches!(node, Node::Reachable { .. }),
-            _ => matches!(node, Node::Removed { .. }),
-        };
-        let asks_owner = matches!(kind, Kind::Publish | Kind::Retire);
-        let foreign = asks_owner && node.owner().unwrap_or(0) != step.process;
-        match (fits, foreign) {
-            (false, true) if self.rules.have(Mistake::AsksOwnerBeforeState) => 9,
-            (false, _) => 8,
-            (true, true) => 9,
-            (true, false) => 0,
+    fn of(&self, step: Step) -> &Process {
+        self.domain.process(step.process)
+    }
+
+    fn assigned(&self, step: Step) -> Option<u32> {
+        self.domain.hazard(step.process, step.hazard).assigned
+    }
+
+    fn may_check(&self, node: u32) -> bool {
+        match self.domain.node(node).state() {
+            State::Reachable => true,
+            State::Removed => self.rules.have(Mistake::ChecksRemoved),
+            _ => false,
         }
     }
 
-    fn refusal_of_check(&self, step: Step) -> u32 {
-        let Some(node) = self.domain.hazard(step.process, step.hazard).assigned else {
-            return 10;
-        };
-        match self.domain.node(node) {
-            Node::Reachable { .. } => 0,
-            Node::Removed { .. } if self.rules.have(Mistake::ChecksRemoved) => 0,
-            _ => 11,
-        }
-    }
-
-    fn buffer_is_full(&self, step: Step) -> bool {
-        self.domain.process(step.process).buffer.len() == BUFFER
-    }
-
-    fn refusal_of_tick(&self) -> u32 {
-        let stopped = self.domain.clock == u32::MAX;
+    /// Every pending store of every process is younger than T ticks.
+    fn all_young(&self) -> bool {
         let limit = self.domain.params.visibility_bound + self.rules.have(Mistake::TickOneLate) as u32;
         let mut stores = self.domain.processes.iter().flat_map(|process| &process.buffer);
-        let due = stores.any(|store| self.domain.clock.saturating_sub(store.time) >= limit);
-        match (stopped, due) {
-            (true, true) if self.rules.have(Mistake::AsksAgeBeforeClock) => 16,
-            (true, _) => 15,
-            (false, true) => 16,
-            (false, false) => 0,
-        }
+        stores.all(|store| self.domain.clock.saturating_sub(store.time) < limit)
     }
 }

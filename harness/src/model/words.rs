@@ -1,9 +1,10 @@
 //! A domain's words: written from its records, and read back where they are well formed.
 
-use super::domain::{Domain, Hazard, Node, Path, Process, Store, BUFFER};
+use super::domain::{Domain, Hazard, Node, Path, Process, Store};
 use super::mistake::{Mistake, Rules};
+use crate::layout::{word_count, BUFFER, CLOCK, LEAD, LEAD_CALLS, LEAD_STORES, NODE, STORE};
 use crate::params::Params;
-use std::collections::VecDeque;
+use std::array::from_fn;
 
 /// Replaces what `words` holds by the domain's words.
 pub fn encode(domain: &Domain, words: &mut Vec<u32>) {
@@ -11,23 +12,23 @@ pub fn encode(domain: &Domain, words: &mut Vec<u32>) {
     words.extend(domain.params.numbers());
     words.extend([domain.clock, (domain.path == Path::Fallback) as u32, domain.epoch]);
     for process in &domain.processes {
-        words.extend([process.epoch, process.calls, process.present as u32, process.buffer.len() as u32]);
+        words.extend(process.lead());
         for hazard in &process.hazards {
             words.extend([stored(hazard.visible), stored(hazard.assigned), hazard.validated as u32]);
         }
         for store in &process.buffer {
             words.extend([store.hazard, stored(store.node), store.time]);
         }
-        words.extend(std::iter::repeat_n(0, 3 * (BUFFER - process.buffer.len())));
+        words.extend(std::iter::repeat_n(0, STORE * (BUFFER - process.buffer.len())));
     }
     for node in &domain.nodes {
-        words.extend(match *node {
-            Node::Free => [0; 5],
-            Node::Allocated { owner, guest } => [1, owner, guest, 0, 0],
-            Node::Reachable { guest } => [2, 0, guest, 0, 0],
-            Node::Removed { owner, guest } => [3, owner, guest, 0, 0],
-            Node::Retired { owner, guest, retired_at, limbo } => [4, owner, guest, retired_at, limbo],
-        });
+        let (retired_at, limbo) = match *node {
+            Node::Retired { retired_at, limbo, .. } => (retired_at, limbo),
+            _ => (0, 0),
+        };
+        let words_of_node: [u32; NODE] =
+            [node.state() as u32, node.owner().unwrap_or(0), node.guest(), retired_at, limbo];
+        words.extend(words_of_node);
     }
 }
 
@@ -44,16 +45,15 @@ fn stored(node: Option<u32>) -> u32 {
 
 /// The domain that the words are, if they are well formed.
 pub fn decode(words: &[u32], rules: Rules) -> Option<Domain> {
-    let numbers: [u32; 6] = words.get(..6)?.try_into().ok()?;
-    let params = Params::from_numbers(numbers);
+    let params = Params::from_numbers(words.get(..Params::COUNT)?.try_into().ok()?);
     if !params.in_range() {
         return None;
     }
-    let longer = words.len() > params.word_count() && !rules.have(Mistake::TakesLongerSlices);
-    if longer || words.len() < params.word_count() {
+    let longer = words.len() > word_count(params) && !rules.have(Mistake::TakesLongerSlices);
+    if longer || words.len() < word_count(params) {
         return None;
     }
-    let mut reader = Reader { words: words[6..].iter(), params, clock: words[6], rules };
+    let mut reader = Reader { words: words[Params::COUNT..].iter(), params, clock: words[CLOCK], rules };
     let clock = reader.any()?;
     let path = if reader.flag()? { Path::Fallback } else { Path::Fast };
     let epoch = reader.at_most(2)?;
@@ -95,17 +95,24 @@ impl Reader<'_> {
     }
 
     fn process(&mut self) -> Option<Process> {
-        let epoch = self.at_most(2)?;
-        let calls =
-            self.at_most(self.params.quiescence_threshold - 1 + self.rules.have(Mistake::TakesCallsOfQ) as u32)?;
-        let present = self.flag()?;
-        let pending = self.at_most(BUFFER as u32)? as usize;
-        let hazards = (0..self.params.hazards).map(|_| self.hazard()).collect::<Option<_>>()?;
-        let buffer = (0..pending).map(|_| self.store()).collect::<Option<VecDeque<_>>>()?;
-        for _ in 0..3 * (BUFFER - pending) {
+        let mut limits = Process::lead_limits(self.params);
+        limits[LEAD_CALLS] += self.rules.have(Mistake::TakesCallsOfQ) as u32;
+        let lead = limits.map(|limit| self.at_most(limit));
+        if lead.contains(&None) {
+            return None;
+        }
+        let lead: [u32; LEAD] = from_fn(|place| lead[place].unwrap_or(0));
+        let (mut process, pending) = (Process::of_lead(self.params, lead), lead[LEAD_STORES]);
+        for hazard in &mut process.hazards {
+            *hazard = self.hazard()?;
+        }
+        for _ in 0..pending {
+            process.buffer.push_back(self.store()?);
+        }
+        for _ in 0..STORE * (BUFFER - pending as usize) {
             self.nought(Mistake::TakesStoresPastLength)?;
         }
-        Some(Process { epoch, calls, present, hazards, buffer })
+        Some(process)
     }
 
     fn hazard(&mut self) -> Option<Hazard> {

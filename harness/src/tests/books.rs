@@ -1,7 +1,7 @@
 //! Books through the built `desk`: what it prints is what the model prints.
 
 use super::examples;
-use crate::book::{print, trailer, write, GREATEST, MOST_STEPS};
+use crate::book::{distance, print, trailer, write, GREATEST, MOST_STEPS, PARAMS, STEP, TRAILER};
 use crate::model::mistake::Rules;
 use crate::model::Model;
 use crate::params::Params;
@@ -22,7 +22,7 @@ pub fn all(report: &mut Report, desk: &Path, folder: &Path, seed: u64) {
         |name: &str, test: &dyn Fn(&Path, u64) -> Outcome| report.test(&format!("desk: {name}"), || test(desk, seed));
     test("random books", &random_books);
     test("any kind, process and hazard byte, any unread byte", &any_bytes);
-    test("no steps", &|desk, _| same(desk, &write(Params::from_numbers([2, 1, 2, 3, 1, 1]), &[], 0)));
+    test("no steps", &|desk, _| same(desk, &write(Params::of(&[2, 1, 2, 3, 1, 1]), &[], 0)));
     test("books cut at every byte", &cut);
     test("padded in front", &padded);
     test("a wrong mark", &wrong_mark);
@@ -131,9 +131,9 @@ fn any_bytes(desk: &Path, seed: u64) -> Outcome {
         let mut random = Random::new(seed ^ 0xa11b, index);
         let params = Params::random(&mut random);
         let mut book = write(params, &schedule(&mut random, params, 300), 0);
-        let end = book.len() - 12;
+        let end = book.len() - TRAILER;
         for _ in 0..200 {
-            let place = 24 + random.below((end - 24) as u32) as usize;
+            let place = PARAMS + random.below((end - PARAMS) as u32) as usize;
             book[place] = random.word() as u8;
         }
         book
@@ -142,8 +142,8 @@ fn any_bytes(desk: &Path, seed: u64) -> Outcome {
 }
 
 fn cut(desk: &Path, seed: u64) -> Outcome {
-    let steps = schedule(&mut Random::new(seed, 1), Params::from_numbers([2, 1, 2, 3, 1, 1]), 13);
-    let book = write(Params::from_numbers([2, 1, 2, 3, 1, 1]), &steps, 0);
+    let steps = schedule(&mut Random::new(seed, 1), Params::of(&[2, 1, 2, 3, 1, 1]), 13);
+    let book = write(Params::of(&[2, 1, 2, 3, 1, 1]), &steps, 0);
     let tails = (1..book.len()).map(|end| book[..end].to_vec());
     let heads = (1..book.len()).map(|start| book[start..].to_vec());
     each(desk, [vec![]].into_iter().chain(tails).chain(heads), Some(19))
@@ -171,18 +171,18 @@ fn wrong_mark(desk: &Path, seed: u64) -> Outcome {
 }
 
 fn with_trailer(book: &[u8], count: u32, distance: u32) -> Vec<u8> {
-    [&book[..book.len() - 12], &trailer(count, distance)].concat()
+    [&book[..book.len() - TRAILER], &trailer(count, distance)].concat()
 }
 
 fn wrong_numbers(desk: &Path, seed: u64) -> Outcome {
-    let book =
-        write(Params::from_numbers([1; 6]), &schedule(&mut Random::new(seed, 2), Params::from_numbers([1; 6]), 10), 0);
-    let count = 10;
-    let distances = [0, 12, 24, 35, 37, 36 + 120 - 12, 36 + 120 - 1, 36 + 120 + 1, 36 + 120 + 12, 1 << 31, u32::MAX];
-    let wrong = distances.map(|distance| with_trailer(&book, count, distance));
-    let counts = [0, 1, 9, 11, 1 << 31, u32::MAX].map(|count| with_trailer(&book, count, 156));
-    let beyond = [11, 5000].map(|count| with_trailer(&book, count, 36 + 12 * count));
-    each(desk, wrong.into_iter().chain(counts).chain(beyond), Some(19))
+    let book = write(Params::LEAST, &schedule(&mut Random::new(seed, 2), Params::LEAST, 10), 0);
+    let (none, right) = (distance(0) as u32, distance(10) as u32);
+    let near = [right - STEP as u32, right - 1, right + 1, right + STEP as u32];
+    let distances = [0, 12, 24, none - 1, none + 1, 1 << 31, u32::MAX].into_iter().chain(near);
+    let wrong = distances.map(|distance| with_trailer(&book, 10, distance));
+    let counts = [0, 1, 9, 11, 1 << 31, u32::MAX].map(|count| with_trailer(&book, count, right));
+    let beyond = [11, 5000].map(|count| with_trailer(&book, count, distance(count as usize) as u32));
+    each(desk, wrong.chain(counts).chain(beyond), Some(19))
 }
 
 /// Counts whose distance passes 32 bits: wrapped or not, none is right.
@@ -190,31 +190,29 @@ fn great_counts(desk: &Path, seed: u64) -> Outcome {
     let book = random_book(seed, 3);
     let counts = [u32::MAX, u32::MAX - 1, u32::MAX - 2, u32::MAX / 12, u32::MAX / 12 + 1, 1 << 30, (1 << 30) + 1];
     let pairs = counts.into_iter().flat_map(|count| {
-        let wrapped = count.wrapping_mul(12).wrapping_add(36);
-        [wrapped, wrapped.min(book.len() as u32), u32::MAX, 36].map(|distance| (count, distance))
+        let none = distance(0) as u32;
+        let wrapped = count.wrapping_mul(STEP as u32).wrapping_add(none);
+        [wrapped, wrapped.min(book.len() as u32), u32::MAX, none].map(|distance| (count, distance))
     });
     let books: Vec<_> = pairs.map(|(count, distance)| with_trailer(&book, count, distance)).collect();
     each(desk, books, Some(19))
 }
 
 fn wrong_params(desk: &Path, seed: u64) -> Outcome {
-    let limits = crate::params::LIMITS;
-    let books = (0..6).flat_map(|place| [0, limits[place] + 1, 1 << 31, u32::MAX].map(|value| (place, value))).map(
-        |(place, value)| {
-            let mut numbers = [1; 6];
-            numbers[place] = value;
-            write(
-                Params::from_numbers(numbers),
-                &schedule(&mut Random::new(seed, 4), Params::from_numbers([1; 6]), 5),
-                0,
-            )
-        },
-    );
+    let most = Params::MOST.numbers();
+    let values = |place: usize| [0, most[place] + 1, 1 << 31, u32::MAX].map(|value| (place, value));
+    let books = (0..Params::COUNT).flat_map(values).filter_map(|(place, value)| {
+        let mut numbers = Params::LEAST.numbers();
+        numbers[place] = value;
+        let params = Params::from_numbers(numbers);
+        let steps = schedule(&mut Random::new(seed, 4), Params::LEAST, 5);
+        (!params.in_range()).then(|| write(params, &steps, 0))
+    });
     each(desk, books, Some(1))
 }
 
 fn longest(desk: &Path, seed: u64) -> Outcome {
-    let params = Params::from_numbers([4, 2, 32, 3, 2, 4]);
+    let params = Params::of(&[4, 2, 32, 3, 2, 4]);
     let book = write(params, &schedule(&mut Random::new(seed, 5), params, MOST_STEPS), 0);
     let padded = |length: usize| [vec![7; length - book.len()], book.clone()].concat();
     each(desk, [book.clone(), padded(GREATEST)], None)?;
@@ -223,7 +221,7 @@ fn longest(desk: &Path, seed: u64) -> Outcome {
 }
 
 fn chunks(desk: &Path, seed: u64) -> Outcome {
-    let params = Params::from_numbers([4, 2, 32, 3, 2, 4]);
+    let params = Params::of(&[4, 2, 32, 3, 2, 4]);
     let sizes = [1, 2, 7, 11, 12, 13, 100, 4096];
     for chunk in sizes {
         let length = if chunk < 10 { 40 } else { 700 };
@@ -245,7 +243,7 @@ fn unreadable(desk: &Path, _: u64) -> Outcome {
 /// A device that is full as standard output, for a book of many pages, for one of a page and for one that is refused: a line on
 /// standard error each.
 fn unwritable(desk: &Path, seed: u64) -> Outcome {
-    let book = |length| book_of(&mut Random::new(seed, 7), Params::from_numbers([4, 2, 32, 3, 2, 4]), length);
+    let book = |length| book_of(&mut Random::new(seed, 7), Params::of(&[4, 2, 32, 3, 2, 4]), length);
     let mut said = String::new();
     for input in [book(700), book(1), Vec::new()] {
         let mut command = Command::new(desk);

@@ -1,5 +1,6 @@
 //! The cases of 'On the edge', with answers and words written by hand from the paper, on the library and on the model.
 
+use crate::layout::{word_count, BUFFER, CLOCK, HAZARD, HEAD, LEAD, LEAD_CALLS, LEAD_STORES, NODE, PATH, STORE};
 use crate::library::Calls;
 use crate::model::mistake::Rules;
 use crate::model::step_words;
@@ -17,17 +18,15 @@ struct Case {
     after: Vec<(usize, u32)>,
 }
 
-const CLOCK: usize = 6;
-const PATH: usize = 7;
-const EPOCH: usize = 8;
+const EPOCH: usize = PATH + 1;
 // of process 0 where K = 1
-const CALLS: usize = 10;
-const PRESENCE: usize = 11;
-const PENDING: usize = 12;
-const VALIDATED: usize = 15;
-const STORE: usize = 16;
+const CALLS: usize = HEAD + LEAD_CALLS;
+const PRESENCE: usize = HEAD + 2;
+const PENDING: usize = HEAD + LEAD_STORES;
+const VALIDATED: usize = HEAD + LEAD + 2;
+const FIRST_STORE: usize = HEAD + LEAD + HAZARD;
 // of nodes where N = K = 1: its state
-const NODE: [usize; 2] = [40, 45];
+const NODES: [usize; 2] = [FIRST_STORE + STORE * BUFFER, FIRST_STORE + STORE * BUFFER + NODE];
 
 pub fn all(report: &mut Report, calls: &Calls) {
     report.test("edge: length at 1, 1, 1 and at 16, 8, 256", || {
@@ -69,9 +68,9 @@ fn holds(
     }
 }
 
-fn fresh(numbers: [u32; 6]) -> Vec<u32> {
-    let mut words = numbers.to_vec();
-    words.resize(Params::from_numbers(numbers).word_count(), 0);
+fn fresh(params: Params) -> Vec<u32> {
+    let mut words = params.numbers().to_vec();
+    words.resize(word_count(params), 0);
     words
 }
 
@@ -96,23 +95,23 @@ fn cases() -> Vec<Case> {
 /// A case from a fresh domain.
 fn case(
     name: &'static str,
-    numbers: [u32; 6],
+    params: Params,
     steps: Vec<Step>,
     answers: &[(usize, u32, u32)],
     after: &[(usize, u32)],
 ) -> Case {
-    Case { name, words: fresh(numbers), steps, answers: answers.to_vec(), after: after.to_vec() }
+    Case { name, words: fresh(params), steps, answers: answers.to_vec(), after: after.to_vec() }
 }
 
 fn scans() -> Vec<Case> {
-    let numbers = [1, 1, 2, 3, 1, 1];
-    let (kept, freed) = ([(NODE[0], 4), (NODE[1], 4)], [(NODE[0], 0), (NODE[1], 4)]);
+    let params = Params::of(&[1, 1, 2, 3, 1, 1]);
+    let (kept, freed) = ([(NODES[0], 4), (NODES[1], 4)], [(NODES[0], 0), (NODES[1], 4)]);
     let visible = [Kind::Allocate, Kind::Publish, Kind::Protect, Kind::Drain, Kind::Remove, Kind::Retire].map(of);
     let visible = [visible.to_vec(), vec![of(Kind::Tick); 4], turnover(1, 60)].concat();
     vec![
-        case("T = 3, a scan at clock 3 keeps the node", numbers, scan_after(3), &[], &kept),
-        case("at clock 4 it frees it", numbers, scan_after(4), &[(11, 0, 1)], &freed),
-        case("and keeps it if visible", numbers, visible, &[], &kept),
+        case("T = 3, a scan at clock 3 keeps the node", params, scan_after(3), &[], &kept),
+        case("at clock 4 it frees it", params, scan_after(4), &[(11, 0, 1)], &freed),
+        case("and keeps it if visible", params, visible, &[], &kept),
     ]
 }
 
@@ -123,12 +122,18 @@ fn thresholds() -> Vec<Case> {
     let (counted, acted) = ([(CALLS, 2), (PRESENCE, 0), (EPOCH, 0)], [(CALLS, 0), (PRESENCE, 1), (EPOCH, 1)]);
     let sixth = [turnover(0, 70), manages(6)].concat();
     vec![
-        case("the eighth store is taken, the ninth gets 13", [1; 6], full, &[(8, 13, 0), (9, 13, 0)], &[(PENDING, 8)]),
-        case("C = 2, the first retire stays fast", [1, 1, 2, 3, 1, 2], one, &[], &[(PATH, 0)]),
-        case("the second switches", [1, 1, 2, 3, 1, 2], two, &[], &[(PATH, 1)]),
-        case("Q = 3, two manages count", [1, 1, 1, 1, 3, 1], manages(2), &[], &counted),
-        case("the third acts", [1, 1, 1, 1, 3, 1], manages(3), &[], &acted),
-        case("the sixth manage frees", [1, 1, 1, 1, 1, 2], sixth, &[(9, 0, 1)], &[(NODE[0], 0)]),
+        case(
+            "the eighth store is taken, the ninth gets 13",
+            Params::LEAST,
+            full,
+            &[(8, 13, 0), (9, 13, 0)],
+            &[(PENDING, 8)],
+        ),
+        case("C = 2, the first retire stays fast", Params::of(&[1, 1, 2, 3, 1, 2]), one, &[], &[(PATH, 0)]),
+        case("the second switches", Params::of(&[1, 1, 2, 3, 1, 2]), two, &[], &[(PATH, 1)]),
+        case("Q = 3, two manages count", Params::of(&[1, 1, 1, 1, 3, 1]), manages(2), &[], &counted),
+        case("the third acts", Params::of(&[1, 1, 1, 1, 3, 1]), manages(3), &[], &acted),
+        case("the sixth manage frees", Params::of(&[1, 1, 1, 1, 1, 2]), sixth, &[(9, 0, 1)], &[(NODES[0], 0)]),
     ]
 }
 
@@ -138,15 +143,15 @@ fn claims() -> Vec<Case> {
     let removed = [published, [Kind::Check, Kind::Remove, Kind::Check, Kind::Use].map(of).to_vec()].concat();
     let answers = [(5, 11, 0), (6, 0, 70)];
     vec![
-        case("use after protect without check gets 12", [1; 6], unchecked, &[(3, 12, 0)], &[(VALIDATED, 0)]),
-        case("a check refused with 11 keeps an old claim", [1; 6], removed, &answers, &[(VALIDATED, 1)]),
+        case("use after protect without check gets 12", Params::LEAST, unchecked, &[(3, 12, 0)], &[(VALIDATED, 0)]),
+        case("a check refused with 11 keeps an old claim", Params::LEAST, removed, &answers, &[(VALIDATED, 1)]),
     ]
 }
 
 /// The last clock, and a pending store to hazard 0 that is 3 = T ticks old.
 fn stopped() -> Case {
-    let mut words = fresh([1, 1, 1, 3, 1, 1]);
-    (words[CLOCK], words[PENDING], words[STORE + 1], words[STORE + 2]) = (u32::MAX, 1, 1, u32::MAX - 3);
+    let mut words = fresh(Params::of(&[1, 1, 1, 3, 1, 1]));
+    (words[CLOCK], words[PENDING], words[FIRST_STORE + 1], words[FIRST_STORE + 2]) = (u32::MAX, 1, 1, u32::MAX - 3);
     Case {
         name: "the last clock with a due store gets 15",
         words,

@@ -1,10 +1,11 @@
 //! qsense_length and qsense_make.
 
 use crate::compare::same;
+use crate::layout::word_count;
 use crate::library::{Calls, Lent};
 use crate::model::domain::Domain;
 use crate::model::words::encode;
-use crate::params::{Params, LIMITS};
+use crate::params::Params;
 use crate::random::Random;
 use crate::step::Answer;
 
@@ -13,11 +14,11 @@ pub fn length(calls: &Calls) -> Result<String, String> {
     let outside = [0, 17, 257, 65_536, 1 << 31, u32::MAX - 8, u32::MAX];
     let numbers = |limit: u32| (1..=limit).chain(outside.into_iter().filter(move |&x| x == 0 || x > limit));
     let mut cases = 0;
-    for n in numbers(16) {
-        for k in numbers(8) {
-            for m in numbers(256) {
-                let params = Params::from_numbers([n, k, m, 1, 1, 1]);
-                let expected = if params.in_range() { params.word_count() as u32 } else { 0 };
+    for n in numbers(Params::MOST.processes) {
+        for k in numbers(Params::MOST.hazards) {
+            for m in numbers(Params::MOST.nodes) {
+                let params = Params { processes: n, hazards: k, nodes: m, ..Params::LEAST };
+                let expected = if params.in_range() { word_count(params) as u32 } else { 0 };
                 let found = calls.length(n, k, m);
                 if found != expected {
                     return Err(format!("length({n}, {k}, {m}) is {found}, expected {expected}"));
@@ -35,7 +36,7 @@ pub fn make(calls: &Calls, seed: u64) -> Result<String, String> {
     for index in 0..20_000 {
         let mut random = Random::new(seed ^ 0x3a4e, index);
         let params = some_params(&mut random);
-        let right = if params.in_range() { params.word_count() } else { 45 + random.below(400) as usize };
+        let right = if params.in_range() { word_count(params) } else { 45 + random.below(400) as usize };
         let length = match random.below(4) {
             0 => *random.of(&[0, 1, 6, 8, 9, right - 1, right + 1, right + 5]),
             _ => right,
@@ -53,8 +54,9 @@ pub fn make(calls: &Calls, seed: u64) -> Result<String, String> {
 fn some_params(random: &mut Random) -> Params {
     let mut numbers = Params::random(random).numbers();
     if random.chance(30) {
-        let place = random.below(6) as usize;
-        numbers[place] = *random.of(&[0, 1, LIMITS[place], LIMITS[place] + 1, 1 << 31, u32::MAX]);
+        let place = random.below(Params::COUNT as u32) as usize;
+        let most = Params::MOST.numbers()[place];
+        numbers[place] = *random.of(&[0, 1, most, most + 1, 1 << 31, u32::MAX]);
     }
     Params::from_numbers(numbers)
 }
@@ -64,7 +66,7 @@ fn one(calls: &Calls, params: Params, before: &[u32]) -> Result<Answer, String> 
     let mut expected = before.to_vec();
     let expected_answer = match params.in_range() {
         false => Answer::refused(1),
-        true if before.len() != params.word_count() => Answer::refused(2),
+        true if before.len() != word_count(params) => Answer::refused(2),
         true => {
             encode(&Domain::fresh(params), &mut expected);
             Answer::accepted(0)

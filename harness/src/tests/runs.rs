@@ -2,6 +2,7 @@
 
 use crate::arbitrary;
 use crate::compare::same;
+use crate::layout::{ANSWER, STEP};
 use crate::library::{Calls, Lent};
 use crate::model::domain::Domain;
 use crate::model::mistake::Rules;
@@ -75,7 +76,7 @@ pub fn wrong_lengths(calls: &Calls, seed: u64) -> Result<String, String> {
         let steps: Vec<u32> = (0..64).map(|_| *random.of(&[1, 0, 0, 0, 11, 13, 77])).collect();
         for steps_len in 0..=31 {
             for answers_len in 0..=14 {
-                if steps_len % 5 == 0 && answers_len == 2 * (steps_len / 5) {
+                if steps_len % STEP == 0 && answers_len == ANSWER * (steps_len / STEP) {
                     continue;
                 }
                 let mut lent = Lent::new(&words);

@@ -29,7 +29,10 @@ node-requires : tie.Need-node-requires
 node-requires c κs = search needs
 
 returns : tie.Need-returns
-returns c = c .node .ensures ∙ ap (λ ns. getD ns (c .before .before .before .before .before .args .c .0) freeNode) (lent-nodes (c .before .before .before .before .before .pre .0) _ (c .before .before .nodes-at .ensures .0))
+returns c =
+    let at-nodes = c .before .before in
+    let start = at-nodes .before .before .before in
+    c .node .ensures ∙ ap (λ ns. getD ns (start .args .c .0) freeNode) (lent-nodes (start .pre .0) _ (at-nodes .nodes-at .ensures .0))
 
 pub node-spec : {M : Type 1} → statement M
 node-spec =

@@ -31,7 +31,11 @@ same-length : tie.Need-same-length
 same-length c = search needs
 
 returns : tie.Need-returns
-returns c = nodes-back (c .before .before .before .before .before .before .before .before .pre .0) _ (c .before .before .before .before .nodes-at .ensures .0) (λ ns. set ns (c .before .before .before .before .before .before .before .before .args .c .0) (nodeValue (c .before .before .before .before .before .before .before .before .args .x))) _ (c .before .before .put .ensures)
+returns c =
+    let at-nodes = c .before .before .before .before in
+    let start = at-nodes .before .before .before .before in
+    let a = start .args in
+    nodes-back (start .pre .0) _ (at-nodes .nodes-at .ensures .0) (λ ns. set ns (a .c .0) (nodeValue (a .x))) _ (c .before .before .put .ensures)
 
 pub set-node-spec : {M : Type 1} → statement M
 set-node-spec =

@@ -34,7 +34,10 @@ same-length c = search needs
 
 returns : tie.Need-returns
 unfolding decodeBy
-returns c = swept-back (c .before .before .before .before .before .before .before .before .before .pre) _ (c .before .before .before .before .nodes-at .ensures .0) _ _ _ (c .before .before .sweep-expired .ensures)
+returns c =
+    let at-nodes = c .before .before .before .before in
+    let start = at-nodes .before .before .before .before .before in
+    swept-back (start .pre) _ (at-nodes .nodes-at .ensures .0) _ _ _ (c .before .before .sweep-expired .ensures)
 
 pub sweep-expired-spec : {M : Type 1} → statement M
 sweep-expired-spec =

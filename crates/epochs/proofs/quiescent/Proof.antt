@@ -2,7 +2,7 @@
 use mathlib.Core.Path.{_∙_, sym}
 use borrow.Author.Tests.{not-true, not-false}
 use Rattle.layout.specs.Encode.{decode}
-use Rattle.epochs.proofs.Adopting.{behind, waits, moves-on}
+use Rattle.epochs.proofs.Quiescence.{behind, waits, moves-on}
 use borrow.Author.Needs.{needs}
 use Rattle.epochs.proofs.quiescent.Statement.{statement}
 use Rattle.epochs.proofs.quiescent.Tie as tie
@@ -20,7 +20,13 @@ same-length : tie.Need-same-length
 same-length c = search needs
 
 returns : tie.Need-returns
-returns c = behind (decode (c .before .before .before .before .before .before .before .before .before .before .before .args .words .now)) (c .before .before .before .before .before .before .before .before .before .before .before .args .p .0) _ (c .before .before .before .before .before .before .before .before .lead .ensures) _ (c .before .before .before .before .before .before .epoch .ensures) (c .before .before .before .before .if1 .taken) _ _ (c .before .before .adopt .ensures)
+returns c =
+    let start = (c .before .before .before .before .before .before .before .before .before .before .before) in
+    let d = decode (start .args .words .now) in
+    let p = start .args .p .0 in
+    let lead = c .before .before .before .before .before .before .before .before .lead .ensures in
+    let epoch = c .before .before .before .before .before .before .epoch .ensures in
+    behind d p lead epoch (c .before .before .before .before .if1 .taken) (c .before .before .adopt .ensures)
 
 caught-up-requires : tie.Need-caught-up-requires
 caught-up-requires c κs = search needs
@@ -29,7 +35,14 @@ same-length-2 : tie.Need-same-length-2
 same-length-2 c = search needs
 
 returns-2 : tie.Need-returns-2
-returns-2 c = waits (decode (c .before .before .before .before .before .before .before .before .before .before .args .words .now)) (c .before .before .before .before .before .before .before .before .before .before .args .p .0) _ (c .before .before .before .before .before .before .before .lead .ensures) _ (c .before .before .before .before .before .epoch .ensures) (c .before .before .before .if1 .left) (sym (c .before .caught-up .ensures) ∙ not-true _ (c .if2 .taken)) _ (c .before .before .before .before .before .before .before .before .before .before .pre .0 .whole)
+returns-2 c =
+    let start = (c .before .before .before .before .before .before .before .before .before .before) in
+    let d = decode (start .args .words .now) in
+    let p = start .args .p .0 in
+    let lead = c .before .before .before .before .before .before .before .lead .ensures in
+    let epoch = c .before .before .before .before .before .epoch .ensures in
+    let some-behind = sym (c .before .caught-up .ensures) ∙ not-true _ (c .if2 .taken) in
+    waits d p lead epoch (c .before .before .before .if1 .left) some-behind (start .pre .0 .whole)
 
 add-set-epoch : tie.Need-add-set-epoch
 add-set-epoch c = search needs
@@ -41,7 +54,14 @@ same-length-3 : tie.Need-same-length-3
 same-length-3 c = search needs
 
 returns-3 : tie.Need-returns-3
-returns-3 c = moves-on (decode (c .before .before .before .before .before .before .before .before .before .before .before .before .before .before .args .words .now)) (c .before .before .before .before .before .before .before .before .before .before .before .before .before .before .args .p .0) _ (c .before .before .before .before .before .before .before .before .before .before .before .lead .ensures) _ (c .before .before .before .before .before .before .before .before .before .epoch .ensures) (c .before .before .before .before .before .before .before .if1 .left) (sym (c .before .before .before .before .before .caught-up .ensures) ∙ not-false _ (c .before .before .before .before .if2 .left)) _ (c .before .before .set-epoch .ensures)
+returns-3 c =
+    let start = (c .before .before .before .before .before .before .before .before .before .before .before .before .before .before) in
+    let d = decode (start .args .words .now) in
+    let p = start .args .p .0 in
+    let lead = c .before .before .before .before .before .before .before .before .before .before .before .lead .ensures in
+    let epoch = c .before .before .before .before .before .before .before .before .before .epoch .ensures in
+    let all-there = sym (c .before .before .before .before .before .caught-up .ensures) ∙ not-false _ (c .before .before .before .before .if2 .left) in
+    moves-on d p lead epoch (c .before .before .before .before .before .before .before .if1 .left) all-there (c .before .before .set-epoch .ensures)
 
 pub quiescent-spec : {M : Type 1} → statement M
 quiescent-spec =

@@ -11,29 +11,25 @@ wide-requires c κs = search needs
 wide-requires-2 : tie.Need-wide-requires-2
 wide-requires-2 c κs = search needs
 
+process-width-requires : tie.Need-process-width-requires
+process-width-requires c κs = search needs
+
 mul-result : tie.Need-mul-result
-mul-result c = search needs
+mul-result c =
+    let h = c .before .before .before .pre in
+    omega (arith, few (h .0) (h .1) (c .before .before .wide .ensures .0) (c .before .wide2 .ensures .0) (c .process-width .ensures))
 
 add-result : tie.Need-add-result
-add-result c = search needs
-
-mul-result-2 : tie.Need-mul-result-2
-mul-result-2 c = omega (arith, few (c .before .before .pre .0) (c .before .before .pre .1) (c .wide2 .ensures .0) (c .before .wide .ensures .0))
-
-add-result-2 : tie.Need-add-result-2
-add-result-2 c = omega (arith, few (c .before .before .pre .0) (c .before .before .pre .1) (c .wide2 .ensures .0) (c .before .wide .ensures .0))
+add-result c =
+    let h = c .before .before .before .pre in
+    omega (arith, few (h .0) (h .1) (c .before .before .wide .ensures .0) (c .before .wide2 .ensures .0) (c .process-width .ensures))
 
 returns : tie.Need-returns
-returns c = start-at (c .before .before .pre .0) (c .before .before .pre .1) (c .wide2 .ensures .0) (c .before .wide .ensures .0)
+returns c =
+    let h = c .before .before .before .pre in
+    start-at (h .0) (h .1) (c .before .before .wide .ensures .0) (c .before .wide2 .ensures .0) (c .process-width .ensures)
 
 pub process-start-spec : {M : Type 1} → statement M
 process-start-spec =
     tie.close
-    (tie.spec
-    wide-requires
-    wide-requires-2
-    mul-result
-    add-result
-    mul-result-2
-    add-result-2
-    returns)
+    (tie.spec wide-requires wide-requires-2 process-width-requires mul-result add-result returns)

@@ -1,7 +1,7 @@
 -- `nodes::node` meets its contract, field by field. Assumes nothing.
 use native.Mathlib.Omega.{arith}
 use borrow.Author.Needs.{needs}
-use Rattle.nodes.proofs.Part.{word-at}
+use Rattle.nodes.proofs.Words.{word-at}
 use Rattle.nodes.proofs.node.Statement.{statement}
 use Rattle.nodes.proofs.node.Tie as tie
 

@@ -3,7 +3,7 @@ use native.Mathlib.Numerals.{towards-suc}
 use native.Mathlib.Omega.{arith}
 use lib.ListN.{length-set}
 use borrow.Author.Needs.{needs}
-use Rattle.nodes.proofs.Part.{rest-set}
+use Rattle.nodes.proofs.Words.{rest-set}
 use Rattle.nodes.proofs.put.Statement.{statement}
 use Rattle.nodes.proofs.put.Tie as tie
 

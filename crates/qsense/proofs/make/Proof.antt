@@ -8,8 +8,8 @@ use borrow.Author.Tests.{eq-eqb, ne-eqb, not-true, not-false}
 use lib.ListN.{length}
 use Rattle.model.specs.Params.{wordCount}
 use Rattle.layout.specs.Values.{paramsValue}
-use Rattle.fresh.specs.Ranges.{inRange}
-use Rattle.fresh.proofs.Ranges.{length-in-range}
+use Rattle.layout.specs.Ranges.{inRange}
+use Rattle.layout.proofs.Ranges.{length-in-range}
 use Rattle.qsense.specs.Calls.{makeWords}
 use Rattle.qsense.proofs.make.Statement.{statement}
 use Rattle.qsense.proofs.make.Tie as tie
@@ -33,16 +33,17 @@ wide-requires c κs = search needs
 returns-2 : tie.Need-returns-2
 unfolding makeWords
 returns-2 c =
-    let a = c .before .before .before .before .before .before .args in
-    let yes' = checked (c .before .before .before) in
+    let at-else = c .before .before .before in
+    let a = at-else .before .before .before .args in
+    let yes' = checked at-else in
     let long = length-in-range (paramsValue (a .params)) yes' in
-    let other : length (a .words .now) ≢ wordCount (paramsValue (a .params)) = λ e. c .if2 .taken (omega (arith, long)) in
+    let other : length (a .words .now) ≢ wordCount (paramsValue (a .params)) = λ e. omega (arith, long, c .if2 .taken) in
     rw (yes', ne-eqb _ _ other)
 
 write-fresh-requires : tie.Need-write-fresh-requires
 write-fresh-requires c κs =
-    let long = length-in-range (paramsValue (c .before .before .before .before .before .before .before .args .params))
-    (checked (c .before .before .before .before)) in
+    let at-else = c .before .before .before .before in
+    let long = length-in-range (paramsValue (at-else .before .before .before .args .params)) (checked at-else) in
     omega (arith, long)
 
 same-length : tie.Need-same-length
@@ -51,8 +52,9 @@ same-length c = search needs
 returns-3 : tie.Need-returns-3
 unfolding makeWords
 returns-3 c =
-    let a = c .before .before .before .before .before .before .before .before .before .before .args in
-    let yes' = checked (c .before .before .before .before .before .before .before) in
+    let at-else = c .before .before .before .before .before .before .before in
+    let a = at-else .before .before .before .args in
+    let yes' = checked at-else in
     let wide = length-in-range (paramsValue (a .params)) yes' in
     let long : length (a .words .now) ≡ wordCount (paramsValue (a .params)) = omega (arith, wide) in
     rw (yes', eq-eqb _ _ long)

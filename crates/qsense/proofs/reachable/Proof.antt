@@ -9,13 +9,20 @@ well-formed-requires : tie.Need-well-formed-requires
 well-formed-requires c κs = search needs
 
 returns : tie.Need-returns
-returns c = count-refused (c .before .before .before .args .words .now) _ (c .before .well-formed .ensures) (not-true _ (c .if1 .taken))
+returns c =
+    let at-check = c .before in
+    count-refused (at-check .before .before .args .words .now) _ (at-check .well-formed .ensures) (not-true _ (c .if1 .taken))
 
 reachable-count-requires : tie.Need-reachable-count-requires
-reachable-count-requires c κs = checked (c .before .before .before .args .words .now) _ (c .before .well-formed .ensures) (not-false _ (c .if1 .left))
+reachable-count-requires c κs =
+    let at-check = c .before in
+    checked (at-check .before .before .args .words .now) _ (at-check .well-formed .ensures) (not-false _ (c .if1 .left))
 
 returns-2 : tie.Need-returns-2
-returns-2 c = counted (c .before .before .before .before .args .words .now) _ (c .before .before .well-formed .ensures) (not-false _ (c .before .if1 .left)) _ (c .reachable-count .ensures)
+returns-2 c =
+    let at-check = c .before .before in
+    let good = not-false _ (c .before .if1 .left) in
+    counted (at-check .before .before .args .words .now) _ (at-check .well-formed .ensures) good _ (c .reachable-count .ensures)
 
 pub reachable-spec : {M : Type 1} → statement M
 reachable-spec =

@@ -20,7 +20,7 @@ same-length : tie.Need-same-length
 same-length c = search needs
 
 returns : tie.Need-returns
-returns c = unpaired _ (c .before .low .ensures) (c .high .ensures) (c .before .before .before .before .step-checked .ensures .0)
+returns c = unpaired _ (c .before .low .ensures) (c .high .ensures) (c .before .before .before .before .step-checked .ensures .reply)
 
 pub step-spec : {M : Type 1} → statement M
 step-spec =

@@ -1,70 +1,225 @@
--- `questions::refusal` meets its contract: the first no of three parts. Assumes nothing.
-use mathlib.Core.Path.{_∙_, sym}
+-- `questions::refusal` meets its contract: past each question with the answer yes the first no is that of the rest. Assumes nothing.
+use Prim.Native.Nat.{ℕ}
+use mathlib.Core.Path.{_≡_, refl}
+use lib.ListN.{drop}
 use Rattle.model.specs.Kinds.{kindOf}
-use Rattle.layout.specs.Encode.{decode, decodeBy}
+use Rattle.model.specs.Questions.{firstNo, questions}
+use Rattle.layout.specs.Encode.{decode}
 use Rattle.domain.specs.Effects.{given}
-use Rattle.questions.specs.Own.{own}
-use Rattle.questions.proofs.Refusals.{bounds-read, outside, unheld, rest, bounded}
+use Rattle.questions.proofs.AskedOf.{yes-then, no-here}
 use borrow.Author.Needs.{needs}
 use Rattle.questions.proofs.refusal.Statement.{statement}
 use Rattle.questions.proofs.refusal.Tie as tie
 
-row-of-requires : tie.Need-row-of-requires
-row-of-requires c κs = search needs
+-- the first no from the i-th question on
+abbrev left : tie.Start → ℕ → ℕ
+left c i =
+    let s = given (c .args .kind) (c .args .p .0) (c .args .h .0) (c .args .c .0) (c .args .guest) in
+    firstNo (drop i (questions (kindOf (c .args .kind)) (decode (c .args .words .now)) s))
 
-bounds-requires : tie.Need-bounds-requires
-bounds-requires c κs = search needs
+-- the start, from where question n is answered yes
+abbrev start-4 : tie.Else1 → tie.Start
+start-4 c = c .before .before .before
 
-ranges-requires : tie.Need-ranges-requires
-ranges-requires c κs = search needs
+abbrev start-5 : tie.Else2 → tie.Start
+start-5 c = start-4 (c .before .before)
+
+abbrev start-6 : tie.Else3 → tie.Start
+start-6 c = start-5 (c .before .before)
+
+abbrev start-7 : tie.Else4 → tie.Start
+start-7 c = start-6 (c .before .before)
+
+abbrev start-8 : tie.Else5 → tie.Start
+start-8 c = start-7 (c .before .before)
+
+abbrev start-9 : tie.Else6 → tie.Start
+start-9 c = start-8 (c .before .before)
+
+abbrev start-10 : tie.Else7 → tie.Start
+start-10 c = start-9 (c .before .before)
+
+abbrev start-11 : tie.Else8 → tie.Start
+start-11 c = start-10 (c .before .before)
+
+abbrev start-12 : tie.Else9 → tie.Start
+start-12 c = start-11 (c .before .before)
+
+abbrev start-13 : tie.Else10 → tie.Start
+start-13 c = start-12 (c .before .before)
+
+abbrev start-14 : tie.Else11 → tie.Start
+start-14 c = start-13 (c .before .before)
+
+abbrev start-15 : tie.Else12 → tie.Start
+start-15 c = start-14 (c .before .before)
+
+abbrev start-16 : tie.Else13 → tie.Start
+start-16 c = start-15 (c .before .before)
+
+abbrev start-17 : tie.Else14 → tie.Start
+start-17 c = start-16 (c .before .before)
+
+-- past question n
+past-4 : (c : tie.Else1) (r : ℕ) → r ≡ left (start-4 c) 1 → r ≡ left (start-4 c) 0
+past-4 c r h = yes-then 4 (c .before .known .ensures) (c .if1 .left) h
+
+past-5 : (c : tie.Else2) (r : ℕ) → r ≡ left (start-5 c) 2 → r ≡ left (start-5 c) 0
+past-5 c r h = past-4 (c .before .before) r (yes-then 5 (c .before .process-in-range .ensures) (c .if2 .left) h)
+
+past-6 : (c : tie.Else3) (r : ℕ) → r ≡ left (start-6 c) 3 → r ≡ left (start-6 c) 0
+past-6 c r h = past-5 (c .before .before) r (yes-then 6 (c .before .hazard-in-range .ensures) (c .if3 .left) h)
+
+past-7 : (c : tie.Else4) (r : ℕ) → r ≡ left (start-7 c) 4 → r ≡ left (start-7 c) 0
+past-7 c r h = past-6 (c .before .before) r (yes-then 7 (c .before .node-in-range .ensures) (c .if4 .left) h)
+
+past-8 : (c : tie.Else5) (r : ℕ) → r ≡ left (start-8 c) 5 → r ≡ left (start-8 c) 0
+past-8 c r h = past-7 (c .before .before) r (yes-then 8 (c .before .state-met .ensures) (c .if5 .left) h)
+
+past-9 : (c : tie.Else6) (r : ℕ) → r ≡ left (start-9 c) 6 → r ≡ left (start-9 c) 0
+past-9 c r h = past-8 (c .before .before) r (yes-then 9 (c .before .owned .ensures) (c .if6 .left) h)
+
+past-10 : (c : tie.Else7) (r : ℕ) → r ≡ left (start-10 c) 7 → r ≡ left (start-10 c) 0
+past-10 c r h = past-9 (c .before .before) r (yes-then 10 (c .before .assigned .ensures) (c .if7 .left) h)
+
+past-11 : (c : tie.Else8) (r : ℕ) → r ≡ left (start-11 c) 8 → r ≡ left (start-11 c) 0
+past-11 c r h = past-10 (c .before .before) r (yes-then 11 (c .before .reachable .ensures) (c .if8 .left) h)
+
+past-12 : (c : tie.Else9) (r : ℕ) → r ≡ left (start-12 c) 9 → r ≡ left (start-12 c) 0
+past-12 c r h = past-11 (c .before .before) r (yes-then 12 (c .before .validated .ensures) (c .if9 .left) h)
+
+past-13 : (c : tie.Else10) (r : ℕ) → r ≡ left (start-13 c) 10 → r ≡ left (start-13 c) 0
+past-13 c r h = past-12 (c .before .before) r (yes-then 13 (c .before .room .ensures) (c .if10 .left) h)
+
+past-14 : (c : tie.Else11) (r : ℕ) → r ≡ left (start-14 c) 11 → r ≡ left (start-14 c) 0
+past-14 c r h = past-13 (c .before .before) r (yes-then 14 (c .before .store-pending .ensures) (c .if11 .left) h)
+
+past-15 : (c : tie.Else12) (r : ℕ) → r ≡ left (start-15 c) 12 → r ≡ left (start-15 c) 0
+past-15 c r h = past-14 (c .before .before) r (yes-then 15 (c .before .clock-goes-on .ensures) (c .if12 .left) h)
+
+past-16 : (c : tie.Else13) (r : ℕ) → r ≡ left (start-16 c) 13 → r ≡ left (start-16 c) 0
+past-16 c r h = past-15 (c .before .before) r (yes-then 16 (c .before .stores-young .ensures) (c .if13 .left) h)
+
+past-17 : (c : tie.Else14) (r : ℕ) → r ≡ left (start-17 c) 14 → r ≡ left (start-17 c) 0
+past-17 c r h = past-16 (c .before .before) r (yes-then 17 (c .before .none-assigned .ensures) (c .if14 .left) h)
+
+known-requires : tie.Need-known-requires
+known-requires c κs = search needs
+
+process-in-range-requires : tie.Need-process-in-range-requires
+process-in-range-requires c κs = start-4 c .pre
+
+hazard-in-range-requires : tie.Need-hazard-in-range-requires
+hazard-in-range-requires c κs = start-5 c .pre
+
+node-in-range-requires : tie.Need-node-in-range-requires
+node-in-range-requires c κs = start-6 c .pre
+
+state-met-requires : tie.Need-state-met-requires
+state-met-requires c κs = start-7 c .pre
+
+owned-requires : tie.Need-owned-requires
+owned-requires c κs = start-8 c .pre
+
+assigned-requires : tie.Need-assigned-requires
+assigned-requires c κs = start-9 c .pre
+
+reachable-requires : tie.Need-reachable-requires
+reachable-requires c κs = start-10 c .pre
+
+validated-requires : tie.Need-validated-requires
+validated-requires c κs = start-11 c .pre
+
+room-requires : tie.Need-room-requires
+room-requires c κs = start-12 c .pre
+
+store-pending-requires : tie.Need-store-pending-requires
+store-pending-requires c κs = start-13 c .pre
+
+clock-goes-on-requires : tie.Need-clock-goes-on-requires
+clock-goes-on-requires c κs = start-14 c .pre
+
+stores-young-requires : tie.Need-stores-young-requires
+stores-young-requires c κs = start-15 c .pre
+
+none-assigned-requires : tie.Need-none-assigned-requires
+none-assigned-requires c κs = start-16 c .pre
 
 returns : tie.Need-returns
-returns c =
-    let a = c .before .before .before .before .before .args in
-    let k = kindOf (a .kind) in
-    let d = decode (a .words .now) in
-    let e = bounds-read k (a .p .0) (a .h .0) (a .c .0) (c .before .ranges .ensures (c .before .before .before .row-of .ensures)) (c .before .before .bounds .ensures) in
-    λ guest. outside k d (given (a .kind) (a .p .0) (a .h .0) (a .c .0) guest) _ e (c .if1 .taken)
-
-node-questions-requires : tie.Need-node-questions-requires
-node-questions-requires c κs = search needs
+returns c = no-here 4 _ (c .before .known .ensures) (c .if1 .taken)
 
 returns-2 : tie.Need-returns-2
-returns-2 c =
-    let a = c .before .before .before .before .before .before .before .args in
-    let k = kindOf (a .kind) in
-    let d = decode (a .words .now) in
-    let e = bounds-read k (a .p .0) (a .h .0) (a .c .0) (c .before .before .before .ranges .ensures (c .before .before .before .before .before .row-of .ensures)) (c .before .before .before .before .bounds .ensures) in
-    let n = c .before .node-questions .ensures k (c .before .before .before .before .before .row-of .ensures) in
-    λ guest. unheld k d (given (a .kind) (a .p .0) (a .h .0) (a .c .0) guest) _ e (c .before .before .if1 .left) _ n (c .if2 .taken)
-
-own-requires : tie.Need-own-requires
-unfolding decodeBy
-own-requires c κs =
-    let a = c .before .before .before .before .before .before .before .args in
-    let k = kindOf (a .kind) in
-    let e = bounds-read k (a .p .0) (a .h .0) (a .c .0) (c .before .before .before .ranges .ensures (c .before .before .before .before .before .row-of .ensures)) (c .before .before .before .before .bounds .ensures) in
-    (c .before .before .before .before .before .before .before .pre, bounded _ _ _ _ _ (sym e ∙ c .before .before .if1 .left))
+returns-2 c = past-4 (c .before .before) 5 (no-here 5 _ (c .before .process-in-range .ensures) (c .if2 .taken))
 
 returns-3 : tie.Need-returns-3
-unfolding own
-returns-3 c =
-    let a = c .before .before .before .before .before .before .before .before .args in
-    let k = kindOf (a .kind) in
-    let d = decode (a .words .now) in
-    let e = bounds-read k (a .p .0) (a .h .0) (a .c .0) (c .before .before .before .before .ranges .ensures (c .before .before .before .before .before .before .row-of .ensures)) (c .before .before .before .before .before .bounds .ensures) in
-    let n = c .before .before .node-questions .ensures k (c .before .before .before .before .before .before .row-of .ensures) in
-    λ guest. rest k d (given (a .kind) (a .p .0) (a .h .0) (a .c .0) guest) _ e (c .before .before .before .if1 .left) _ n (c .before .if2 .left) _ (c .own .ensures)
+returns-3 c = past-5 (c .before .before) 6 (no-here 6 _ (c .before .hazard-in-range .ensures) (c .if3 .taken))
+
+returns-4 : tie.Need-returns-4
+returns-4 c = past-6 (c .before .before) 7 (no-here 7 _ (c .before .node-in-range .ensures) (c .if4 .taken))
+
+returns-5 : tie.Need-returns-5
+returns-5 c = past-7 (c .before .before) 8 (no-here 8 _ (c .before .state-met .ensures) (c .if5 .taken))
+
+returns-6 : tie.Need-returns-6
+returns-6 c = past-8 (c .before .before) 9 (no-here 9 _ (c .before .owned .ensures) (c .if6 .taken))
+
+returns-7 : tie.Need-returns-7
+returns-7 c = past-9 (c .before .before) 10 (no-here 10 _ (c .before .assigned .ensures) (c .if7 .taken))
+
+returns-8 : tie.Need-returns-8
+returns-8 c = past-10 (c .before .before) 11 (no-here 11 _ (c .before .reachable .ensures) (c .if8 .taken))
+
+returns-9 : tie.Need-returns-9
+returns-9 c = past-11 (c .before .before) 12 (no-here 12 _ (c .before .validated .ensures) (c .if9 .taken))
+
+returns-10 : tie.Need-returns-10
+returns-10 c = past-12 (c .before .before) 13 (no-here 13 _ (c .before .room .ensures) (c .if10 .taken))
+
+returns-11 : tie.Need-returns-11
+returns-11 c = past-13 (c .before .before) 14 (no-here 14 _ (c .before .store-pending .ensures) (c .if11 .taken))
+
+returns-12 : tie.Need-returns-12
+returns-12 c = past-14 (c .before .before) 15 (no-here 15 _ (c .before .clock-goes-on .ensures) (c .if12 .taken))
+
+returns-13 : tie.Need-returns-13
+returns-13 c = past-15 (c .before .before) 16 (no-here 16 _ (c .before .stores-young .ensures) (c .if13 .taken))
+
+returns-14 : tie.Need-returns-14
+returns-14 c = past-16 (c .before .before) 17 (no-here 17 _ (c .before .none-assigned .ensures) (c .if14 .taken))
+
+returns-15 : tie.Need-returns-15
+returns-15 c = past-17 c 0 refl
 
 pub refusal-spec : {M : Type 1} → statement M
 refusal-spec =
     tie.close
     (tie.spec
-    row-of-requires
-    bounds-requires
-    ranges-requires
+    known-requires
+    process-in-range-requires
+    hazard-in-range-requires
+    node-in-range-requires
+    state-met-requires
+    owned-requires
+    assigned-requires
+    reachable-requires
+    validated-requires
+    room-requires
+    store-pending-requires
+    clock-goes-on-requires
+    stores-young-requires
+    none-assigned-requires
     returns
-    node-questions-requires
     returns-2
-    own-requires
-    returns-3)
+    returns-3
+    returns-4
+    returns-5
+    returns-6
+    returns-7
+    returns-8
+    returns-9
+    returns-10
+    returns-11
+    returns-12
+    returns-13
+    returns-14
+    returns-15)

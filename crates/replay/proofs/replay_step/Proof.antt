@@ -1,8 +1,7 @@
--- `replay::replay_step` meets its contract: the step at the offset, and its line in the i-th three words. Assumes nothing.
+-- `replay::replay_step` meets its contract: the step at the offset is taken, and its line put after the others. Assumes nothing.
 use native.Mathlib.Omega.{arith}
-use lib.ListN.{length-set}
 use borrow.Author.Needs.{needs}
-use Rattle.replay.proofs.Step.{few, lowered, taken-at}
+use Rattle.replay.proofs.Step.{few, lowered, line-size, taken-at}
 use Rattle.replay.proofs.replay_step.Statement.{statement}
 use Rattle.replay.proofs.replay_step.Tie as tie
 
@@ -10,43 +9,22 @@ step-at-requires : tie.Need-step-at-requires
 step-at-requires c κs = search needs
 
 step-known-requires : tie.Need-step-known-requires
-step-known-requires c κs = c .before .before .before .before .before .pre .0 .0
+step-known-requires c κs = search needs
 
 counted-requires : tie.Need-counted-requires
-counted-requires c κs = (few _ _ (c .before .before .before .before .before .before .before .before .pre .0), lowered _ _ (c .before .before .before .before .before .before .before .before .pre .0) _ _ _ _ (c .before .before .step-known .ensures))
+counted-requires c κs =
+    let known = c .before .before in
+    let start = known .before .before .before .before .before .before in
+    (omega (arith, few _ _ (start .pre .0)), lowered _ _ (start .pre .0) _ _ _ _ (known .step-known .ensures))
 
-mul-lines : tie.Need-mul-lines
-mul-lines c = search needs
-
-mul-lines-2 : tie.Need-mul-lines-2
-mul-lines-2 c = search needs
-
-slice-write-lines : tie.Need-slice-write-lines
-slice-write-lines c = search needs
-
-mul-lines-3 : tie.Need-mul-lines-3
-mul-lines-3 c = search needs
-
-add-lines : tie.Need-add-lines
-add-lines c = search needs
-
-mul-lines-4 : tie.Need-mul-lines-4
-mul-lines-4 c = search needs
-
-slice-write-lines-2 : tie.Need-slice-write-lines-2
-slice-write-lines-2 c = simp length-set (omega arith)
-
-mul-lines-5 : tie.Need-mul-lines-5
-mul-lines-5 c = search needs
-
-add-lines-2 : tie.Need-add-lines-2
-add-lines-2 c = search needs
-
-mul-lines-6 : tie.Need-mul-lines-6
-mul-lines-6 c = search needs
-
-slice-write-lines-3 : tie.Need-slice-write-lines-3
-slice-write-lines-3 c = simp length-set (omega arith)
+put-step-requires : tie.Need-put-step-requires
+put-step-requires c κs =
+    let counted = c .before in
+    let known = counted .before .before .before in
+    let at = known .before .before in
+    let start = at .before .before .before .before in
+    let short = line-size _ _ (start .pre .0) _ _ _ _ (known .step-known .ensures) _ (counted .counted .ensures) (start .args .i) (start .pre .1) (at .step-at .ensures .1) in
+    omega (arith, short)
 
 same-length : tie.Need-same-length
 same-length c = search needs
@@ -55,7 +33,15 @@ same-length-2 : tie.Need-same-length-2
 same-length-2 c = search needs
 
 returns : tie.Need-returns
-returns c = taken-at _ _ (c .before .before .before .before .before .before .before .before .before .pre .0) _ _ (c .before .before .before .before .before .step-at .ensures) _ _ _ (c .before .before .before .step-known .ensures) _ _ _ (c .counted .ensures)
+returns c =
+    let line = c .before .before in
+    let counted = line .before .before in
+    let known = counted .before .before .before in
+    let at = known .before .before in
+    let start = at .before .before .before .before in
+    let p = start .pre in
+    taken-at _ _ (p .0) _ _ (at .step-at .ensures .0) _ _ _ (known .step-known .ensures) _ (counted .counted .ensures)
+    _ _ _ _ _ (p .1) (at .step-at .ensures .1) (p .2) (line .put-step .ensures)
 
 pub replay-step-spec : {M : Type 1} → statement M
 replay-step-spec =
@@ -64,17 +50,7 @@ replay-step-spec =
     step-at-requires
     step-known-requires
     counted-requires
-    mul-lines
-    mul-lines-2
-    slice-write-lines
-    mul-lines-3
-    add-lines
-    mul-lines-4
-    slice-write-lines-2
-    mul-lines-5
-    add-lines-2
-    mul-lines-6
-    slice-write-lines-3
+    put-step-requires
     same-length
     same-length-2
     returns)

@@ -1,7 +1,7 @@
--- `replay::replay_steps` meets its contract. The loop's invariant: i steps are taken, and the words and the lines are on the way (`Going`)
+-- `replay::replay_steps` meets its contract. The loop's invariant: i steps are taken, and the words and the print are on the way (`Going`)
 -- to what all of them leave. The measure is what is left of the steps. Assumes nothing.
-use Prim.Native.Nat.{_-_, _≤_}
-use mathlib.Core.Path.{_≡_}
+use Prim.Native.Nat.{ℕ, _+_, _*_, _-_, _≤_}
+use mathlib.Core.Path.{_≡_, refl, ap}
 use native.Mathlib.Omega.{arith}
 use lib.ListN.{length}
 use borrow.Author.Needs.{needs}
@@ -10,26 +10,35 @@ use Rattle.replay.proofs.replay_steps.Statement.{statement}
 use Rattle.replay.proofs.replay_steps.Tie as tie
 
 abbrev Inv-loop : tie.InvT-loop
-Inv-loop words₀ bytes first count lines₀ reachable₀ i₀ words lines reachable i =
-    (i ≤ count) × (length words ≡ length words₀) × Going count i first bytes words₀ lines₀ words lines reachable
+Inv-loop words₀ bytes first count out₀ start reachable₀ at₀ i₀ words out reachable at i =
+    (i ≤ count)
+    × (length words ≡ length words₀)
+    × (length out ≡ length out₀)
+    × Going count i first start bytes words₀ out₀ words out at reachable
 
 abbrev μ-loop : tie.MeasureT-loop
-μ-loop words₀ bytes first count lines₀ reachable₀ i₀ words lines reachable i = count - i
+μ-loop words₀ bytes first count out₀ start reachable₀ at₀ i₀ words out reachable at i = count - i
 
 reachable-count-requires : tie.Need-reachable-count-requires Inv-loop μ-loop
-reachable-count-requires c κs = c .before .before .before .before .pre .0
+reachable-count-requires c κs = search needs
 
 loop-holds : tie.Need-loop-holds Inv-loop μ-loop
-loop-holds c = (omega arith, search needs, going-start _ _ _ _ _ _ (c .before .before .before .before .before .pre .0, c .reachable-count .ensures))
+loop-holds c =
+    let sound = c .before .before .before .before .before .pre .0 in
+    (omega arith, refl, refl, going-start _ _ _ _ _ _ _ (sound .0, c .reachable-count .ensures))
 
-mul-replay-step : tie.Need-mul-replay-step Inv-loop μ-loop
-mul-replay-step c = search needs
+wide-requires : tie.Need-wide-requires Inv-loop μ-loop
+wide-requires c κs = search needs
 
-add-replay-step : tie.Need-add-replay-step Inv-loop μ-loop
-add-replay-step c = search needs
+mul-from : tie.Need-mul-from Inv-loop μ-loop
+mul-from c = search needs
+
+add-from : tie.Need-add-from Inv-loop μ-loop
+add-from c = search needs
 
 replay-step-requires : tie.Need-replay-step-requires Inv-loop μ-loop
-replay-step-requires c κs = (c .before .before .before .loop .inv .2 .counted, omega (arith, c .before .before .before .loop .inv .2 .long))
+replay-step-requires c κs =
+    let going = c .before .before .before .before .loop .inv .3 in (going .counted, omega arith, omega (arith, going .room))
 
 add-i : tie.Need-add-i Inv-loop μ-loop
 add-i c = search needs
@@ -38,17 +47,17 @@ loop-less : tie.Need-loop-less Inv-loop μ-loop
 loop-less c = search needs
 
 loop-again : tie.Need-loop-again Inv-loop μ-loop
-loop-again c = (
-  omega arith,
-  search needs,
-  going-on _ _ _ _ _ _ _ _ _ _ _ _ (omega arith) (omega arith) (c .before .before .before .before .before .before .before .before .loop .inv .2) (c .before .before .before .before .replay-step .ensures),
-)
-
-clock-requires : tie.Need-clock-requires Inv-loop μ-loop
-clock-requires c κs = c .before .before .loop .inv .2 .counted .0
-
-path-requires : tie.Need-path-requires Inv-loop μ-loop
-path-requires c κs = c .before .before .before .before .loop .inv .2 .counted .0
+loop-again c =
+    let taken = c .before .before .before .before in
+    let wide = taken .before .before .before in
+    let at-loop = wide .before .before in
+    let first = at-loop .before .before .before .before .before .before .args .first in
+    let from = ap (λ (n : ℕ). first + 12 * n) (wide .wide .ensures .0) in (
+      omega arith,
+      search needs,
+      search needs,
+      going-on _ _ _ _ _ _ _ _ _ _ _ _ _ _ _ _ (omega arith) from (at-loop .loop .inv .3) (taken .replay-step .ensures),
+    )
 
 same-length : tie.Need-same-length Inv-loop μ-loop
 same-length c = search needs
@@ -57,11 +66,7 @@ same-length-2 : tie.Need-same-length-2 Inv-loop μ-loop
 same-length-2 c = search needs
 
 returns : tie.Need-returns Inv-loop μ-loop
-returns c =
-    let k = c .before .before .clock .ensures in
-    let p = c .path .ensures in
-    going-end _ _ _ _ _ _ _ _ _ _ (omega arith) (omega arith) (c .before .before .before .before .before .loop .inv .2)
-    (λ t. record { clock = k t; path = p t; reachable = c .before .before .before .before .before .loop .reachable })
+returns c = going-end _ _ _ _ _ _ _ _ _ _ _ (omega arith) (c .before .loop .inv .3)
 
 pub replay-steps-spec : {M : Type 1} → statement M
 replay-steps-spec =
@@ -71,14 +76,13 @@ replay-steps-spec =
     μ-loop
     reachable-count-requires
     loop-holds
-    mul-replay-step
-    add-replay-step
+    wide-requires
+    mul-from
+    add-from
     replay-step-requires
     add-i
     loop-less
     loop-again
-    clock-requires
-    path-requires
     same-length
     same-length-2
     returns)

@@ -1,4 +1,4 @@
--- `runs::run_step` meets its contract: the step of the i-th five words, and its answer in the i-th two. Assumes nothing.
+-- `runs::run_step` meets its contract: the step of the i-th row, and its answer in the i-th row of answers. Assumes nothing.
 use native.Mathlib.Omega.{arith}
 use lib.ListN.{length-set}
 use borrow.Author.Needs.{needs}
@@ -6,87 +6,119 @@ use Rattle.runs.proofs.Turns.{taken}
 use Rattle.runs.proofs.run_step.Statement.{statement}
 use Rattle.runs.proofs.run_step.Tie as tie
 
+-- src/lib.rt:16:14
 mul-at : tie.Need-mul-at
 mul-at c = search needs
 
-mul-step-checked : tie.Need-mul-step-checked
-mul-step-checked c = search needs
-
-shared-slice-read-step-checked : tie.Need-shared-slice-read-step-checked
-shared-slice-read-step-checked c = search needs
-
-add-t13 : tie.Need-add-t13
-add-t13 c = search needs
-
-mul-t14 : tie.Need-mul-t14
-mul-t14 c = search needs
-
-shared-slice-read-t16 : tie.Need-shared-slice-read-t16
-shared-slice-read-t16 c = search needs
-
-add-t18 : tie.Need-add-t18
-add-t18 c = search needs
-
-mul-t19 : tie.Need-mul-t19
-mul-t19 c = search needs
-
-shared-slice-read-t21 : tie.Need-shared-slice-read-t21
-shared-slice-read-t21 c = search needs
-
-add-t23 : tie.Need-add-t23
-add-t23 c = search needs
-
-mul-t24 : tie.Need-mul-t24
-mul-t24 c = search needs
-
-shared-slice-read-t26 : tie.Need-shared-slice-read-t26
-shared-slice-read-t26 c = search needs
-
+-- src/lib.rt:20:15
 add-step-checked : tie.Need-add-step-checked
 add-step-checked c = search needs
 
+-- src/lib.rt:20:9
+mul-step-checked : tie.Need-mul-step-checked
+mul-step-checked c = search needs
+
+-- src/lib.rt:20:9
+shared-slice-read-step-checked : tie.Need-shared-slice-read-step-checked
+shared-slice-read-step-checked c = search needs
+
+-- src/lib.rt:21:25
+add-t15 : tie.Need-add-t15
+add-t15 c = search needs
+
+-- src/lib.rt:21:19
+mul-t16 : tie.Need-mul-t16
+mul-t16 c = search needs
+
+-- src/lib.rt:21:19
+shared-slice-read-t18 : tie.Need-shared-slice-read-t18
+shared-slice-read-t18 c = search needs
+
+-- src/lib.rt:22:24
+add-t20 : tie.Need-add-t20
+add-t20 c = search needs
+
+-- src/lib.rt:22:18
+mul-t21 : tie.Need-mul-t21
+mul-t21 c = search needs
+
+-- src/lib.rt:22:18
+shared-slice-read-t23 : tie.Need-shared-slice-read-t23
+shared-slice-read-t23 c = search needs
+
+-- src/lib.rt:23:22
+add-t25 : tie.Need-add-t25
+add-t25 c = search needs
+
+-- src/lib.rt:23:16
+mul-t26 : tie.Need-mul-t26
+mul-t26 c = search needs
+
+-- src/lib.rt:23:16
+shared-slice-read-t28 : tie.Need-shared-slice-read-t28
+shared-slice-read-t28 c = search needs
+
+-- src/lib.rt:24:15
+add-step-checked-2 : tie.Need-add-step-checked-2
+add-step-checked-2 c = search needs
+
+-- src/lib.rt:24:9
 mul-step-checked-2 : tie.Need-mul-step-checked-2
 mul-step-checked-2 c = search needs
 
+-- src/lib.rt:24:9
 shared-slice-read-step-checked-2 : tie.Need-shared-slice-read-step-checked-2
 shared-slice-read-step-checked-2 c = search needs
 
+-- src/lib.rt:17:9
 step-checked-requires : tie.Need-step-checked-requires
 step-checked-requires c κs = search needs
 
+-- src/lib.rt:26:14
+mul-to : tie.Need-mul-to
+mul-to c = search needs
+
+-- src/lib.rt:27:42
 low-requires : tie.Need-low-requires
 low-requires c κs = search needs
 
-mul-answers : tie.Need-mul-answers
-mul-answers c = search needs
-
-mul-answers-2 : tie.Need-mul-answers-2
-mul-answers-2 c = search needs
-
-slice-write-answers : tie.Need-slice-write-answers
-slice-write-answers c = search needs
-
-high-requires : tie.Need-high-requires
-high-requires c κs = search needs
-
-mul-answers-3 : tie.Need-mul-answers-3
-mul-answers-3 c = search needs
-
+-- src/lib.rt:27:13
 add-answers : tie.Need-add-answers
 add-answers c = search needs
 
-mul-answers-4 : tie.Need-mul-answers-4
-mul-answers-4 c = search needs
+-- src/lib.rt:27:5
+mul-answers : tie.Need-mul-answers
+mul-answers c = search needs
 
+-- src/lib.rt:27:5
+slice-write-answers : tie.Need-slice-write-answers
+slice-write-answers c = search needs
+
+-- src/lib.rt:28:40
+high-requires : tie.Need-high-requires
+high-requires c κs = search needs
+
+-- src/lib.rt:28:13
+add-answers-2 : tie.Need-add-answers-2
+add-answers-2 c = search needs
+
+-- src/lib.rt:28:5
+mul-answers-2 : tie.Need-mul-answers-2
+mul-answers-2 c = search needs
+
+-- src/lib.rt:28:5
 slice-write-answers-2 : tie.Need-slice-write-answers-2
 slice-write-answers-2 c = simp length-set (omega arith)
 
+-- src/lib.rt:12:1
 same-length : tie.Need-same-length
 same-length c = search needs
 
+-- src/lib.rt:12:1
 same-length-2 : tie.Need-same-length-2
 same-length-2 c = search needs
 
+-- src/lib.rt:12:1
 returns : tie.Need-returns
 returns c = taken _ _ _ _ _ _ (c .before .low .ensures) (c .high .ensures) (c .before .before .before .before .step-checked .ensures)
 
@@ -95,29 +127,30 @@ run-step-spec =
     tie.close
     (tie.spec
     mul-at
+    add-step-checked
     mul-step-checked
     shared-slice-read-step-checked
-    add-t13
-    mul-t14
-    shared-slice-read-t16
-    add-t18
-    mul-t19
-    shared-slice-read-t21
-    add-t23
-    mul-t24
-    shared-slice-read-t26
-    add-step-checked
+    add-t15
+    mul-t16
+    shared-slice-read-t18
+    add-t20
+    mul-t21
+    shared-slice-read-t23
+    add-t25
+    mul-t26
+    shared-slice-read-t28
+    add-step-checked-2
     mul-step-checked-2
     shared-slice-read-step-checked-2
     step-checked-requires
+    mul-to
     low-requires
+    add-answers
     mul-answers
-    mul-answers-2
     slice-write-answers
     high-requires
-    mul-answers-3
-    add-answers
-    mul-answers-4
+    add-answers-2
+    mul-answers-2
     slice-write-answers-2
     same-length
     same-length-2

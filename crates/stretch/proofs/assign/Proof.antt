@@ -12,26 +12,20 @@ slice-read-stores c = search needs
 wide-requires : tie.Need-wide-requires
 wide-requires c κs = search needs
 
-mul-at : tie.Need-mul-at
-mul-at c = search needs
+mul-from : tie.Need-mul-from
+mul-from c = search needs
 
-add-at : tie.Need-add-at
-add-at c = search needs
+add-from : tie.Need-add-from
+add-from c = search needs
+
+wide-requires-2 : tie.Need-wide-requires-2
+wide-requires-2 c κs = search needs
 
 mul-end : tie.Need-mul-end
 mul-end c = search needs
 
 add-end : tie.Need-add-end
 add-end c = search needs
-
-wide-requires-2 : tie.Need-wide-requires-2
-wide-requires-2 c κs = search needs
-
-mul-end-2 : tie.Need-mul-end-2
-mul-end-2 c = search needs
-
-add-end-2 : tie.Need-add-end-2
-add-end-2 c = search needs
 
 add-row : tie.Need-add-row
 add-row c = search needs
@@ -57,14 +51,17 @@ add-row-3 c = search needs
 slice-write-row-3 : tie.Need-slice-write-row-3
 slice-write-row-3 c = simp length-set (omega arith)
 
+add-row-4 : tie.Need-add-row-4
+add-row-4 c = search needs
+
 mul-row-3 : tie.Need-mul-row-3
 mul-row-3 c = search needs
 
 slice-write-row-4 : tie.Need-slice-write-row-4
 slice-write-row-4 c = simp length-set (omega arith)
 
-add-row-4 : tie.Need-add-row-4
-add-row-4 c = search needs
+add-row-5 : tie.Need-add-row-5
+add-row-5 c = search needs
 
 mul-row-4 : tie.Need-mul-row-4
 mul-row-4 c = search needs
@@ -72,8 +69,8 @@ mul-row-4 c = search needs
 slice-write-row-5 : tie.Need-slice-write-row-5
 slice-write-row-5 c = simp length-set (omega arith)
 
-add-row-5 : tie.Need-add-row-5
-add-row-5 c = search needs
+add-row-6 : tie.Need-add-row-6
+add-row-6 c = search needs
 
 mul-row-5 : tie.Need-mul-row-5
 mul-row-5 c = search needs
@@ -86,7 +83,8 @@ same-length c = simp length-set
 
 returns : tie.Need-returns
 returns c =
-    let p = c .before .before .before .before .pre in assigned _ _ (p .0) _ _ _ _ _ (p .1) (omega arith) (omega arith) (omega arith)
+    let h = c .before .before .before .before .before .before .pre in
+    assigned _ _ (h .0 .words) _ _ _ _ _ (h .1) (omega (arith, h .0 .words .stores)) (omega (arith, h .0 .hazards)) (omega (arith, h .0 .stores))
 
 pub assign-spec : {M : Type 1} → statement M
 assign-spec =
@@ -94,13 +92,11 @@ assign-spec =
     (tie.spec
     slice-read-stores
     wide-requires
-    mul-at
-    add-at
+    mul-from
+    add-from
+    wide-requires-2
     mul-end
     add-end
-    wide-requires-2
-    mul-end-2
-    add-end-2
     add-row
     mul-row
     slice-write-row
@@ -109,12 +105,13 @@ assign-spec =
     slice-write-row-2
     add-row-3
     slice-write-row-3
+    add-row-4
     mul-row-3
     slice-write-row-4
-    add-row-4
+    add-row-5
     mul-row-4
     slice-write-row-5
-    add-row-5
+    add-row-6
     mul-row-5
     slice-write-row-6
     same-length

@@ -8,52 +8,56 @@ use Rattle.stretch.proofs.hazard.Tie as tie
 wide-requires : tie.Need-wide-requires
 wide-requires c κs = search needs
 
-mul-at : tie.Need-mul-at
-mul-at c = search needs
+mul-from : tie.Need-mul-from
+mul-from c = search needs
 
-add-at : tie.Need-add-at
-add-at c = search needs
+add-from : tie.Need-add-from
+add-from c = search needs
 
-mul-t5 : tie.Need-mul-t5
-mul-t5 c = search needs
+add-t5 : tie.Need-add-t5
+add-t5 c = search needs
+
+mul-t6 : tie.Need-mul-t6
+mul-t6 c = search needs
 
 shared-slice-read-t8 : tie.Need-shared-slice-read-t8
 shared-slice-read-t8 c = search needs
 
-add-t6 : tie.Need-add-t6
-add-t6 c = search needs
+add-t9 : tie.Need-add-t9
+add-t9 c = search needs
 
-mul-t9 : tie.Need-mul-t9
-mul-t9 c = search needs
+mul-t10 : tie.Need-mul-t10
+mul-t10 c = search needs
 
-shared-slice-read-t11 : tie.Need-shared-slice-read-t11
-shared-slice-read-t11 c = search needs
+shared-slice-read-t12 : tie.Need-shared-slice-read-t12
+shared-slice-read-t12 c = search needs
 
-add-t12 : tie.Need-add-t12
-add-t12 c = search needs
+add-t13 : tie.Need-add-t13
+add-t13 c = search needs
 
-mul-t13 : tie.Need-mul-t13
-mul-t13 c = search needs
+mul-t14 : tie.Need-mul-t14
+mul-t14 c = search needs
 
-shared-slice-read-t15 : tie.Need-shared-slice-read-t15
-shared-slice-read-t15 c = search needs
+shared-slice-read-t16 : tie.Need-shared-slice-read-t16
+shared-slice-read-t16 c = search needs
 
 returns : tie.Need-returns
-returns c = hazard-at _ _ _ _ (c .before .before .before .before .before .pre .1) (c .before .before .before .before .before .pre .0) (omega arith)
+returns c = let h = c .before .before .before .before .before .before .pre in hazard-at _ _ _ _ (omega (arith, h .0 .words .long)) (h .1) (omega (arith, h .0 .hazards))
 
 pub hazard-spec : {M : Type 1} → statement M
 hazard-spec =
     tie.close
     (tie.spec
     wide-requires
-    mul-at
-    add-at
-    mul-t5
+    mul-from
+    add-from
+    add-t5
+    mul-t6
     shared-slice-read-t8
-    add-t6
-    mul-t9
-    shared-slice-read-t11
-    add-t12
-    mul-t13
-    shared-slice-read-t15
+    add-t9
+    mul-t10
+    shared-slice-read-t12
+    add-t13
+    mul-t14
+    shared-slice-read-t16
     returns)

@@ -19,7 +19,7 @@ same-length : tie.Need-same-length
 same-length c = simp length-set
 
 returns : tie.Need-returns
-returns c = lead-written _ _ (c .pre) _ _ _
+returns c = lead-written _ _ (c .pre .words) _ _ _
 
 pub set-lead-spec : {M : Type 1} → statement M
 set-lead-spec =

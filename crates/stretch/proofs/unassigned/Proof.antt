@@ -1,7 +1,7 @@
 -- `stretch::unassigned` meets its contract. The invariant: ok says whether the first h hazards are unassigned. The measure: the hazards that are left.
 -- Assumes nothing.
 use Prim.Native.Nat.{ℕ, _-_, _≤_}
-use mathlib.Core.Path.{refl, sym, ap}
+use mathlib.Core.Path.{_≡_, refl, sym, ap}
 use native.Mathlib.Omega.{arith}
 use lib.Dec.{eqb}
 use borrow.Author.Needs.{needs}
@@ -13,14 +13,14 @@ use Rattle.stretch.proofs.unassigned.Statement.{statement}
 use Rattle.stretch.proofs.unassigned.Tie as tie
 
 abbrev Inv-loop : tie.InvT-loop
-Inv-loop row k ok₀ h₀ ok h =
-    (h ≤ k) × Tested (λ y. eqb (y .assigned) 0) (processAt k row .hazards) h ok
+Inv-loop row at k ok₀ h₀ ok h =
+    (h ≤ k) × (k ≡ at .k) × Tested (λ y. eqb (y .assigned) 0) (processAt (at .k) row .hazards) h ok
 
 abbrev μ-loop : tie.MeasureT-loop
-μ-loop row k ok₀ h₀ ok h = k - h
+μ-loop row at k ok₀ h₀ ok h = k - h
 
 loop-holds : tie.Need-loop-holds Inv-loop μ-loop
-loop-holds c = (omega arith, tested-none)
+loop-holds c = (omega arith, refl, tested-none)
 
 mul-ok : tie.Need-mul-ok Inv-loop μ-loop
 mul-ok c = search needs
@@ -44,15 +44,19 @@ loop-less : tie.Need-loop-less Inv-loop μ-loop
 loop-less c = search needs
 
 loop-again : tie.Need-loop-again Inv-loop μ-loop
-loop-again c = (
-  omega arith,
-  tested-more emptyHazard (c .before .before .loop .inv .1)
-      (omega (arith, hazards-length (c .before .before .before .args .k) (c .before .before .before .args .row .now)))
-      (ap (λ (n : ℕ). eqb n 0) (sym (hazard-word _ _ _ 1 _ (omega arith) (omega arith) (omega arith) refl))),
-)
+loop-again c =
+    let a = c .before .before .before .before .args in
+    let h = c .before .before .before .before .pre in (
+      omega arith,
+      c .before .before .before .loop .inv .1,
+      tested-more emptyHazard (c .before .before .before .loop .inv .2) (omega (arith, hazards-length (a .at .k) (a .row .now)))
+          (ap (λ (n : ℕ). eqb n 0) (sym (hazard-word _ _ _ 1 _ (omega (arith, h .words .long)) (omega arith) (omega arith) (omega (arith, h .hazards))))),
+    )
 
 returns : tie.Need-returns Inv-loop μ-loop
-returns c = tested-all (c .before .loop .inv .1) (omega (arith, hazards-length (c .before .before .args .k) (c .before .before .args .row .now)))
+returns c =
+    let a = c .before .before .args in
+    tested-all (c .before .loop .inv .2) (omega (arith, hazards-length (a .at .k) (a .row .now)))
 
 pub unassigned-spec : {M : Type 1} → statement M
 unassigned-spec =

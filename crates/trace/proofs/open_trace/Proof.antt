@@ -2,7 +2,7 @@
 use mathlib.Core.Bool.{true}
 use mathlib.Core.Path.{_≡_, sym, ap, _∙_}
 use borrow.Author.Tests.{not-true, not-false}
-use Rattle.fresh.specs.Ranges.{inRange}
+use Rattle.layout.specs.Ranges.{inRange}
 use Rattle.trace.specs.Trace.{given, Front, trailerRight, paramsOf, frontAt, frontOf}
 use Rattle.trace.proofs.Opening.{too-long, no-trailer, trailer-fits, out-of-range, opens}
 use native.Mathlib.Omega.{arith}

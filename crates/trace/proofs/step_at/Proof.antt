@@ -2,6 +2,7 @@
 use mathlib.Core.Path.{sym, _∙_}
 use borrow.Author.Tests.{not-true, not-false, leb-true}
 use Rattle.trace.proofs.Opening.{step-inside, step-outside}
+use native.Mathlib.Omega.{arith}
 use borrow.Author.Needs.{needs}
 use Rattle.trace.proofs.step_at.Statement.{statement}
 use Rattle.trace.proofs.step_at.Tie as tie
@@ -12,7 +13,7 @@ holds-requires c κs = search needs
 returns : tie.Need-returns
 returns c =
     let a = c .before .before .before .args in
-    sym (step-outside (a .bytes .now) (a .at) (sym (c .before .holds .ensures) ∙ not-true _ (c .if1 .taken)))
+    (sym (step-outside (a .bytes .now) (a .at) (sym (c .before .holds .ensures) ∙ not-true _ (c .if1 .taken))), omega arith)
 
 step-inside-requires : tie.Need-step-inside-requires
 step-inside-requires c κs = leb-true _ _ (sym (c .before .holds .ensures) ∙ not-false _ (c .if1 .left))
@@ -20,8 +21,8 @@ step-inside-requires c κs = leb-true _ _ (sym (c .before .holds .ensures) ∙ n
 returns-2 : tie.Need-returns-2
 returns-2 c =
     let a = c .before .before .before .before .args in
-    c .step-inside .ensures
-    ∙ sym (step-inside (a .bytes .now) (a .at) (sym (c .before .before .holds .ensures) ∙ not-false _ (c .before .if1 .left)))
+    let inside = step-inside (a .bytes .now) (a .at) (sym (c .before .before .holds .ensures) ∙ not-false _ (c .before .if1 .left)) in
+    (c .step-inside .ensures .0 ∙ sym inside, c .step-inside .ensures .1)
 
 pub step-at-spec : {M : Type 1} → statement M
 step-at-spec = tie.close (tie.spec holds-requires returns step-inside-requires returns-2)

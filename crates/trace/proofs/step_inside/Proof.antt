@@ -42,15 +42,17 @@ word-at-requires-2 c κs = search needs
 
 returns : tie.Need-returns
 unfolding stepIn
-returns c =
-    λ t.
-    record {
-      kind = c .before .before .before .before .before .before .wide .ensures .0 t;
-      process = c .before .before .before .before .wide2 .ensures .0 t;
-      hazard = c .before .before .wide3 .ensures .0 t;
-      node = c .before .word-at .ensures t;
-      guest = c .word-at2 .ensures t;
-    }
+returns c = (
+  λ t.
+      record {
+        kind = c .before .before .before .before .before .before .wide .ensures .0 t;
+        process = c .before .before .before .before .wide2 .ensures .0 t;
+        hazard = c .before .before .wide3 .ensures .0 t;
+        node = c .before .word-at .ensures t;
+        guest = c .word-at2 .ensures t;
+      },
+  c .before .before .before .before .before .before .wide .ensures .1,
+)
 
 pub step-inside-spec : {M : Type 1} → statement M
 step-inside-spec =

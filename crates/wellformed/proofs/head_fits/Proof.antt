@@ -54,4 +54,22 @@ unfolding headFits
 returns c = search needs
 
 pub head-fits-spec : {M : Type 1} → statement M
-head-fits-spec = tie.close (tie.spec shared-slice-read-result shared-slice-read-result-2 shared-slice-read-result-3 shared-slice-read-result-4 shared-slice-read-result-5 shared-slice-read-result-6 shared-slice-read-result-7 shared-slice-read-result-8 shared-slice-read-result-9 shared-slice-read-result-10 shared-slice-read-result-11 shared-slice-read-result-12 shared-slice-read-result-13 shared-slice-read-result-14 shared-slice-read-result-15 returns)
+head-fits-spec =
+    tie.close
+    (tie.spec
+    shared-slice-read-result
+    shared-slice-read-result-2
+    shared-slice-read-result-3
+    shared-slice-read-result-4
+    shared-slice-read-result-5
+    shared-slice-read-result-6
+    shared-slice-read-result-7
+    shared-slice-read-result-8
+    shared-slice-read-result-9
+    shared-slice-read-result-10
+    shared-slice-read-result-11
+    shared-slice-read-result-12
+    shared-slice-read-result-13
+    shared-slice-read-result-14
+    shared-slice-read-result-15
+    returns)

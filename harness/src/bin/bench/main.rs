@@ -28,7 +28,7 @@ fn main() {
         }
     };
     table::head();
-    let shapes = SHAPES.map(Params::from_numbers);
+    let shapes = SHAPES.map(|numbers| Params::of(&numbers));
     for all in [rows::all, retire::all, cycles::all] {
         shapes.into_iter().for_each(all);
     }

@@ -1,6 +1,7 @@
 //! Contenders that do the same work, timed in turns.
 
 use crate::callers::Caller;
+use harness::layout::{ANSWER, STEP};
 use harness::step::Step;
 use std::hint::black_box;
 use std::time::Instant;
@@ -65,7 +66,7 @@ pub struct Run<'a, C> {
 
 impl<'a, C> Run<'a, C> {
     pub fn new(caller: &'a C, start: &'a [u32], steps: &'a [u32]) -> Run<'a, C> {
-        Run { caller, start, words: start.to_vec(), steps, answers: vec![0; steps.len() / 5 * 2] }
+        Run { caller, start, words: start.to_vec(), steps, answers: vec![0; steps.len() / STEP * ANSWER] }
     }
 }
 

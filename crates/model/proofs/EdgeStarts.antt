@@ -1,0 +1,47 @@
+-- Every starred case of the paper starts well: from a fresh domain, or from `stopped`, which no run reaches. Assumes nothing.
+use native.Mathlib.Omega.{arith}
+use Rattle.lists.specs.Tests.{All}
+use Rattle.model.specs.Params.{Params, InRange}
+use Rattle.model.specs.WellFormed.{WellFormed}
+use Rattle.model.specs.Machine.{fresh}
+use Rattle.model.specs.Edge.{StartsWell, stopped, cases}
+use Rattle.model.proofs.Each.{_then_}
+use Rattle.model.proofs.WellFormed.{well-formed-fresh}
+
+-- clock at its end, a store of age 3 pending
+stopped-well : WellFormed stopped
+stopped-well =
+    record {
+      params = omega arith;
+      clock = omega arith;
+      path = omega arith;
+      epoch = omega arith;
+      processCount = omega arith;
+      nodeCount = omega arith;
+      processes = (
+        record {
+          words = omega arith;
+          stores = record { room = omega arith; width = omega arith; buffer = (omega arith, tt); hazards = (omega arith, tt) };
+        },
+        tt,
+      );
+      nodes = (omega arith, tt);
+    }
+
+-- a line a case, in the list's order
+pub starts-well : All StartsWell cases
+starts-well =
+    omega arith
+    then omega arith
+    then well-formed-fresh _ (omega arith)
+    then well-formed-fresh _ (omega arith)
+    then well-formed-fresh _ (omega arith)
+    then well-formed-fresh _ (omega arith)
+    then well-formed-fresh _ (omega arith)
+    then well-formed-fresh _ (omega arith)
+    then well-formed-fresh _ (omega arith)
+    then well-formed-fresh _ (omega arith)
+    then well-formed-fresh _ (omega arith)
+    then stopped-well
+    then well-formed-fresh _ (omega arith)
+    then tt

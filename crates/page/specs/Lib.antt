@@ -1,2 +1,0 @@
--- What the contracts of `page` cite.
-pub mod Text

@@ -1,0 +1,59 @@
+-- The two ways of a print, and the words of the longest domain. Assumes nothing.
+use Prim.Native.Nat.{ℕ, _+_, _*_, _-_, _/_, _≤_}
+use mathlib.Core.List.{List}
+use mathlib.Core.Path.{_≡_, sym, ap, _∙_}
+use native.Mathlib.Omega.{arith}
+use native.Mathlib.Nat.{le-trans, mul-le-mul-left, mul-le-mul-right}
+use lib.ListN.{length}
+use Rattle.model.specs.Params.{Params, InRange, wordCount}
+use Rattle.layout.specs.Ranges.{lengthFor}
+use Rattle.layout.proofs.Ranges.{in-range, length-in-range}
+use Rattle.trace.specs.Trace.{refused, given, Front, frontOf, traceOf}
+use Rattle.trace.specs.Claims.{ledFrom, traceFrom}
+use Rattle.trace.proofs.InTurn.{passed, steps-many}
+use Rattle.trace.proofs.Theorems.{front-leads, steps-in-turn}
+use Rattle.text.specs.Text.{Put, refusedText, refusedTextSize}
+use Rattle.text.proofs.Sizes.{ten-most}
+use Rattle.text.proofs.Digits.{put-take}
+use Rattle.replay.specs.Most.{bookRoom}
+use Rattle.replay.specs.Turn.{Replayed}
+use Rattle.print.specs.Printed.{readingText, printed, printRoom, Prints}
+
+words-most : (a : Params) → InRange a → wordCount a ≤ 2121
+words-most a r =
+    let rows : a .processes * (28 + 3 * a .hazards) ≤ 832 =
+    le-trans
+    (mul-le-mul-left (a .processes) (omega (arith, r .hazards)))
+    (mul-le-mul-right 52 (r .processes .1)) in
+    omega (arith, rows, r .nodes)
+
+module _ (bs : List ℕ) (f : Front) (opened : frontOf bs ≡ given f) where
+  -- as many words as its domain takes
+  pub long-is : lengthFor (f .params .processes) (f .params .hazards) (f .params .nodes) ≡ wordCount (f .params)
+  long-is = length-in-range (f .params) (passed bs f opened .range)
+
+  pub long-most : wordCount (f .params) ≤ 2121
+  long-most = words-most (f .params) (in-range (f .params) (passed bs f opened .range))
+
+  fits : f .count ≤ (length bs - 36) / 12
+  fits = let (t, _, turn) = steps-in-turn bs f opened in omega (arith, turn .room)
+
+  pub room : (n : ℕ) → printRoom (length bs) ≤ n → bookRoom (f .count) ≤ n
+  room n h = omega (arith, fits)
+
+  pub found : (ws out' : List ℕ) (n : ℕ) → Replayed (ledFrom bs f) ws out' n → Prints bs out' n
+  unfolding printed
+  found ws out' n r =
+      let read : traceOf bs ≡ given (ledFrom bs f) = front-leads bs ∙ ap (traceFrom bs) opened in
+      record { text = r .text ∙ sym (ap readingText read); room = omega (arith, r .room, fits, steps-many bs (f .first) (f .count)) }
+
+pub not-found : (bs : List ℕ) (k : ℕ) (out out' : List ℕ) (n : ℕ) → refused k ≡ frontOf bs → printRoom (length bs) ≤ length out
+    → Put out 0 (refusedText k) (refusedTextSize k) out' n → Prints bs out' n
+unfolding printed
+not-found bs k out out' n e l x =
+    let read : traceOf bs ≡ refused k = front-leads bs ∙ ap (traceFrom bs) (sym e) in
+    let short = ten-most k in
+    record {
+      text = put-take out 0 _ _ out' n x (omega arith) ∙ sym (ap readingText read);
+      room = omega (arith, x .ends);
+    }

@@ -1,2 +1,0 @@
-pub mod Processes
-pub mod Assigned

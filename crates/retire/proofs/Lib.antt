@@ -1,0 +1,3 @@
+pub mod MarkedTo
+pub mod Unmarked
+pub mod Branches

@@ -1,0 +1,66 @@
+// What the kinds do that touch one node: allocate (1), publish (2), remove (7). Each answers its value.
+use layout::Node;
+use layout::NodeId;
+use layout::ProcessId;
+use layout::words::states;
+ghost use Rattle.model.specs.Kinds.{Allocate, Publish, Remove};
+ghost use Rattle.questions.specs.Acted.{Ready, Acted};
+
+// The node becomes Allocated by the process, for the guest.
+pub fn allocate(words: &mut [u32], p: ProcessId, c: NodeId, guest: u32) -> u32
+    requires { ⌜ Ready Allocate (now words) (p .0) 0 (c .0) guest ⌝ }
+    ensures { λ r. ⌜ Acted Allocate (now (words .entry)) (p .0) 0 (c .0) guest (now (words .exit)) r ⌝ }
+{
+    domain::set_node(
+        words,
+        c,
+        Node {
+            state: states::ALLOCATED,
+            owner: p.0,
+            guest,
+            retired: 0,
+            limbo: 0,
+        },
+    );
+    0
+}
+
+// The node becomes Reachable, owned by nobody.
+pub fn publish(words: &mut [u32], p: ProcessId, c: NodeId) -> u32
+    requires { ⌜ Ready Publish (now words) (p .0) 0 (c .0) 0 ⌝ }
+    ensures { λ r. ⌜ Acted Publish (now (words .entry)) (p .0) 0 (c .0) 0 (now (words .exit)) r ⌝ }
+{
+    let x = domain::node(words, c);
+    domain::set_node(
+        words,
+        c,
+        Node {
+            state: states::REACHABLE,
+            owner: 0,
+            guest: x.guest,
+            retired: x.retired,
+            limbo: x.limbo,
+        },
+    );
+    0
+}
+
+// The node becomes Removed by the process.
+pub fn remove(words: &mut [u32], p: ProcessId, c: NodeId) -> u32
+    requires { ⌜ Ready Remove (now words) (p .0) 0 (c .0) 0 ⌝ }
+    ensures { λ r. ⌜ Acted Remove (now (words .entry)) (p .0) 0 (c .0) 0 (now (words .exit)) r ⌝ }
+{
+    let x = domain::node(words, c);
+    domain::set_node(
+        words,
+        c,
+        Node {
+            state: states::REMOVED,
+            owner: p.0,
+            guest: x.guest,
+            retired: x.retired,
+            limbo: x.limbo,
+        },
+    );
+    0
+}
