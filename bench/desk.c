@@ -4,7 +4,7 @@
 #include <stdio.h>
 #include <string.h>
 
-enum { GREATEST = 65536, PARAMETERS = sizeof(qsense_params), STEP = 12, TRAILER = 12 };
+enum { GREATEST = 65536, PARAMETERS = 24, STEP = 12, TRAILER = 12 };
 
 static uint8_t book[GREATEST + 1];
 static uint32_t words[2121];
@@ -30,15 +30,11 @@ int main(void) {
     uint64_t count = word(trailer), distance = word(trailer + 4);
     if (memcmp(trailer + 8, "QBAK", 4) != 0 || distance != PARAMETERS + STEP * count + TRAILER || distance > size) return refused(19);
     const uint8_t *at = book + size - distance;
-    uint32_t numbers[PARAMETERS / 4];
-    for (size_t i = 0; i < PARAMETERS / 4; i++, at += 4) numbers[i] = word(at);
-    qsense_params params;
-    memcpy(&params, numbers, sizeof params);
-    uint32_t length = plain_length(params.processes, params.hazards, params.nodes);
-    if (plain_make(words, length, params).refusal != 0) return refused(1);
-    printf("desk");
-    for (size_t i = 0; i < PARAMETERS / 4; i++) printf(" %u", numbers[i]);
-    printf("\n");
+    uint32_t p[PARAMETERS / 4];
+    for (size_t i = 0; i < PARAMETERS / 4; i++, at += 4) p[i] = word(at);
+    uint32_t length = plain_length(p[0], p[1], p[2]);
+    if (plain_make(words, length, p[0], p[1], p[2], p[3], p[4], p[5]).refusal != 0) return refused(1);
+    printf("desk %u %u %u %u %u %u\n", p[0], p[1], p[2], p[3], p[4], p[5]);
     for (uint64_t i = 0; i < count; i++, at += STEP) {
         qsense_answer a = plain_step(words, length, at[0], at[1], at[2], word(at + 4), word(at + 8));
         printf("%u %u %u %u %u\n", (uint32_t)i, at[0], a.refusal, a.value, plain_reachable(words, length).value);

@@ -306,14 +306,13 @@ uint32_t plain_length(uint32_t n, uint32_t k, uint32_t m) {
     return HEAD + n * process_width(k) + NODE * m;
 }
 
-qsense_answer plain_make(uint32_t *words, size_t len, qsense_params params) {
-    uint32_t length = plain_length(params.processes, params.hazards, params.nodes);
-    if (length == 0 || !within(params.visibility, 1, 1000) || !within(params.quiescence, 1, 1000) ||
-        !within(params.fallback, 1, 256))
-        return refused(1);
+qsense_answer plain_make(uint32_t *words, size_t len, uint32_t n, uint32_t k, uint32_t m, uint32_t t, uint32_t q, uint32_t c) {
+    uint32_t length = plain_length(n, k, m);
+    if (length == 0 || !within(t, 1, 1000) || !within(q, 1, 1000) || !within(c, 1, 256)) return refused(1);
     if (len != length) return refused(2);
+    const uint32_t parameters[] = {n, k, m, t, q, c};
     memset(words, 0, len * sizeof *words);
-    memcpy(words, &params, sizeof params);
+    memcpy(words, parameters, sizeof parameters);
     return accepted(0);
 }
 

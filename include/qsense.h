@@ -24,25 +24,21 @@ typedef struct {
     uint32_t value;
 } qsense_answer;
 
-/* The parameters of a domain, which its first words hold in this order. */
-typedef struct {
-    uint32_t processes;  /* N, 1 to 16 */
-    uint32_t hazards;    /* K, of each process, 1 to 8 */
-    uint32_t nodes;      /* M, 1 to 256 */
-    uint32_t visibility; /* T, 1 to 1000: within so many ticks a store is visible */
-    uint32_t quiescence; /* Q, 1 to 1000: every Q-th manage of a process acts */
-    uint32_t fallback;   /* C, 1 to 256: a process with so many Retired nodes leaves the fast path */
-} qsense_params;
-
 /* How many words a domain takes: 9 + n * (28 + 3 * k) + 5 * m, from 45 to 2121. 0 unless n, k and m are each in range.
  * It reads and changes no words and is never refused. */
 uint32_t qsense_length(uint32_t n, uint32_t k, uint32_t m);
 
-/* Makes a fresh domain in words, whatever they held: its parameters first, 0 in every other word. The value is 0. Refused, with no word
- * changed:
+/* Makes a fresh domain in words, whatever they held: its parameters first, in this order, and 0 in every other word.
+ *   n  N, processes, 1 to 16
+ *   k  K, hazards of each process, 1 to 8
+ *   m  M, nodes, 1 to 256
+ *   t  T, 1 to 1000: within so many ticks a store is visible
+ *   q  Q, 1 to 1000: every Q-th manage of a process acts
+ *   c  C, 1 to 256: a process with so many Retired nodes leaves the fast path
+ * The value is 0. Refused, with no word changed:
  *   1  a parameter is out of range
- *   2  len is not the qsense_length of these parameters */
-qsense_answer qsense_make(uint32_t *words, size_t len, qsense_params params);
+ *   2  len is not qsense_length(n, k, m) */
+qsense_answer qsense_make(uint32_t *words, size_t len, uint32_t n, uint32_t k, uint32_t m, uint32_t t, uint32_t q, uint32_t c);
 
 /* Takes one step. Only the fields named with a kind are read.
  *    1  allocate (process, node, guest)    Free to Allocated, with this owner and guest

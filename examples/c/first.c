@@ -4,9 +4,8 @@
 
 int main(void) {
     uint32_t words[2121]; /* room for the greatest domain */
-    qsense_params params = {2, 1, 2, 3, 1, 1}; /* 2 processes, 1 hazard each, 2 nodes; T, Q and C */
-    size_t len = qsense_length(params.processes, params.hazards, params.nodes);
-    qsense_answer made = qsense_make(words, len, params);
+    size_t len = qsense_length(2, 1, 2);
+    qsense_answer made = qsense_make(words, len, 2, 1, 2, 3, 1, 1);
     qsense_step(words, len, 1, 0, 0, 0, 70);                       /* process 0 allocates node 0 for guest 70 */
     qsense_step(words, len, 2, 0, 0, 0, 0);                        /* and publishes it */
     qsense_step(words, len, 3, 1, 0, 0, 0);                        /* process 1 protects it by its hazard 0 */

@@ -7,8 +7,6 @@ use std::fmt::{Display, Formatter, Result};
 // switch and nodes are freed within a few steps, and of a middling one.
 macro_rules! parameters {
     ($($(#[$doc:meta])* $name:ident: $least:literal to $most:literal, small $small:literal, middling $middling:literal;)*) => {
-        /// As in include/qsense.h.
-        #[repr(C)]
         #[derive(Clone, Copy, Debug, PartialEq)]
         pub struct Params {
             $($(#[$doc])* pub $name: u32,)*

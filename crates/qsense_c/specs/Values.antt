@@ -1,21 +1,20 @@
 -- The values of the exports as the library's. Assumes nothing.
 use Prim.Native.Nat.{ℕ}
 use mathlib.Core.List.{List}
-use Rattle.model.specs.Params as M
+use Rattle.model.specs.Params.{Params}
 use Rattle.qsense.specs.Calls.{Reply}
 use Rattle.qsense_c.specs.declared.Answer.{Answer}
-use Rattle.qsense_c.specs.declared.Params.{Params}
 
 abbrev pub replyOf : Answer → List ℕ → Reply
 replyOf r ws = record { refusal = r .refusal; value = r .value; words = ws }
 
-abbrev pub paramsOf : Params → M.Params
-paramsOf a =
+abbrev pub paramsOf : ℕ → ℕ → ℕ → ℕ → ℕ → ℕ → Params
+paramsOf n k m t q c =
     record {
-      processes = a .processes;
-      hazards = a .hazards;
-      nodes = a .nodes;
-      visibilityBound = a .visibility;
-      quiescenceThreshold = a .quiescence;
-      fallbackThreshold = a .fallback;
+      processes = n;
+      hazards = k;
+      nodes = m;
+      visibilityBound = t;
+      quiescenceThreshold = q;
+      fallbackThreshold = c;
     }

@@ -1,6 +1,7 @@
 // The calls for C and Rust hosts: thin exports over the library. A slice travels as a pointer and a length in words.
 use layout::HazardId;
 use layout::NodeId;
+use layout::Params;
 use layout::ProcessId;
 ghost use mathlib.Core.Path.{_≡_};
 ghost use Rattle.layout.specs.Ranges.{lengthFor};
@@ -8,17 +9,6 @@ ghost use Rattle.qsense.specs.Calls.{makeWords, stepWords, reachableWords};
 ghost use Rattle.runs.specs.Runs.{ranOf, runInto};
 ghost use Rattle.domain.specs.Effects.{given};
 ghost use Rattle.qsense_c.specs.Values.{replyOf, paramsOf};
-
-// N, K, M, T, Q and C.
-#[repr(C)]
-pub struct Params {
-    pub processes: u32,
-    pub hazards: u32,
-    pub nodes: u32,
-    pub visibility: u32,
-    pub quiescence: u32,
-    pub fallback: u32,
-}
 
 #[repr(C)]
 pub struct Answer {
@@ -36,18 +26,26 @@ pub extern "C" fn qsense_length(n: u32, k: u32, m: u32) -> u32
 
 // Makes a fresh domain of the words.
 #[no_mangle]
-pub extern "C" fn qsense_make(words: &mut [u32], params: Params) -> Answer
-    ensures { λ r. ⌜ replyOf r (now (words .exit)) ≡ makeWords (now (words .entry)) (paramsOf params) ⌝ }
+pub extern "C" fn qsense_make(
+    words: &mut [u32],
+    n: u32,
+    k: u32,
+    m: u32,
+    t: u32,
+    q: u32,
+    c: u32,
+) -> Answer
+    ensures { λ r. ⌜ replyOf r (now (words .exit)) ≡ makeWords (now (words .entry)) (paramsOf n k m t q c) ⌝ }
 {
     let made = qsense::make(
         words,
-        layout::Params {
-            processes: params.processes,
-            hazards: params.hazards,
-            nodes: params.nodes,
-            visibility: params.visibility,
-            quiescence: params.quiescence,
-            fallback: params.fallback,
+        Params {
+            processes: n,
+            hazards: k,
+            nodes: m,
+            visibility: t,
+            quiescence: q,
+            fallback: c,
         },
     );
     Answer {
