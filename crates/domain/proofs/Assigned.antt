@@ -1,7 +1,7 @@
 -- The node that a hazard of sound words names. Assumes nothing.
 use Prim.Native.Nat.{ℕ, _-_, _<_}
 use mathlib.Core.List.{List}
-use mathlib.Core.Path.{_≡_, _∙_, ap}
+use mathlib.Core.Path.{_≡_}
 use mathlib.Core.Logic.{_≢_}
 use native.Mathlib.Omega.{arith}
 use Rattle.lists.proofs.Facts.{all-at}
@@ -23,7 +23,3 @@ module _ {ws : List ℕ} (s : Sound ws) (p h : ℕ) (lp : p < paramsIn ws .proce
   pub assigned-in : y .assigned ≢ 0 → y .assigned - 1 < paramsIn ws .nodes
   unfolding decodeBy
   assigned-in z = omega (arith, hazard-fits .assigned)
-
-  -- a validated hazard has one
-  pub claim-assigned : hazardOf (processOf (decode ws) p) h .validated ≡ 1 → y .assigned ≢ 0
-  claim-assigned v = hazard-fits .claimed (ap (λ x. x .validated) e ∙ v)

@@ -2,15 +2,16 @@
 use Prim.Native.Nat.{ℕ, _<_, _≤_}
 use mathlib.Core.Bool.{Bool, true, false, not, _&&_, _||_}
 use mathlib.Core.Logic.{_≢_}
-use mathlib.Core.Path.{_≡_, refl, sym, _∙_}
+use mathlib.Core.Path.{_≡_, refl, sym, ap, _∙_}
 use native.Mathlib.Omega.{arith}
-use borrow.Author.Tests.{ne-eqb, lt-leb, ltb-true, ltb-false}
+use borrow.Author.Tests.{eq-eqb, ne-eqb, lt-leb, ltb-true, ltb-false}
 use lib.Dec.{leb, ltb, eqb}
 use Rattle.lists.specs.Table.{tableFrom}
 use Rattle.lists.proofs.Table.{table-at}
-use Rattle.model.specs.Kinds.{Kind, kindOf, is, meets, rowOf, Allocate, Publish, Protect, Check, Use, Clear}
+use Rattle.model.specs.Kinds.{Kind, kindOf, is, meets, rank, rowOf, Allocate, Publish, Protect, Check, Use, Clear}
 use Rattle.model.specs.Kinds.{Remove, Retire, Drain, Flush, Tick, Manage, ClearPresence, Unknown}
-use Rattle.kinds.specs.Table.{neededCode}
+use Rattle.kinds.specs.Table.{neededCode, rowCode, guestCode}
+use Rattle.kinds.specs.declared.Row.{Row}
 
 -- a number that is none of the kinds'
 pub none-of : (n : ℕ) → n ≢ 1 → n ≢ 2 → n ≢ 3 → n ≢ 4 → n ≢ 5 → n ≢ 6 → n ≢ 7 → n ≢ 8 → n ≢ 9 → n ≢ 10 → n ≢ 11 → n ≢ 12 → n ≢ 13
@@ -72,3 +73,11 @@ state-asked Tick m = refl
 state-asked Manage m = refl
 state-asked ClearPresence m = refl
 state-asked Unknown m = refl
+
+-- a guest that is read, and one that is not
+module _ (k : Kind) (r : Row) (guest : ℕ) (e : r ≡ rowCode k) where
+  pub read-so : r .3 ≡ 4 → guest ≡ guestCode k guest
+  read-so h = rw (eq-eqb (rank (rowOf k .guest)) 4 (sym (ap (λ (x : Row). x .3) e) ∙ h))
+
+  pub unread-so : r .3 ≢ 4 → 0 ≡ guestCode k guest
+  unread-so h = rw (ne-eqb (rank (rowOf k .guest)) 4 (λ q. h (ap (λ (x : Row). x .3) e ∙ q)))

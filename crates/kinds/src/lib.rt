@@ -1,15 +1,17 @@
-// The table of thirteen rows: for each kind of step what its process, hazard and node fields are to it, the state that its node needs,
-// and whether the process must own that node.
+// The table of thirteen rows: for each kind of step what its process, hazard, node and guest fields are to it, the state that its node
+// needs, and whether the process must own that node.
 use layout::words::states;
 ghost use mathlib.Core.Path.{_≡_};
 ghost use mathlib.Core.Bool.{not};
 ghost use Rattle.model.specs.Kinds.{kindOf, is, Unknown};
-ghost use Rattle.kinds.specs.Table.{rowCode};
+ghost use Rattle.kinds.specs.Table.{rowCode, guestCode};
 
 // How many kinds there are: 1 to 13.
 pub const COUNT: usize = 13;
 
-// The kinds that a question beside the table is about.
+// The kind that reads a guest, and those that a question beside the table is about.
+pub const ALLOCATE: u32 = 1;
+
 pub const PROTECT: u32 = 3;
 
 pub const CHECK: u32 = 4;
@@ -33,27 +35,29 @@ pub const HAZARD: u8 = 2;
 
 pub const NODE: u8 = 3;
 
+pub const NUMBER: u8 = 4;
+
 // A kind that needs no state: none of the five.
 pub const ANY: u32 = 5;
 
-// What the fields process, hazard and node are, the state needed, and whether the process must own the node.
-pub struct Row(pub u8, pub u8, pub u8, pub u32, pub bool);
+// What the fields process, hazard, node and guest are, the state needed, and whether the process must own the node.
+pub struct Row(pub u8, pub u8, pub u8, pub u8, pub u32, pub bool);
 
 // From kind 1 on.
 const ROWS: [Row; COUNT] = [
-    Row(PROCESS, UNREAD, NODE, states::FREE, false),
-    Row(PROCESS, UNREAD, NODE, states::ALLOCATED, true),
-    Row(PROCESS, HAZARD, NODE, ANY, false),
-    Row(PROCESS, HAZARD, UNREAD, ANY, false),
-    Row(PROCESS, HAZARD, UNREAD, ANY, false),
-    Row(PROCESS, HAZARD, UNREAD, ANY, false),
-    Row(PROCESS, UNREAD, NODE, states::REACHABLE, false),
-    Row(PROCESS, UNREAD, NODE, states::REMOVED, true),
-    Row(PROCESS, UNREAD, UNREAD, ANY, false),
-    Row(PROCESS, UNREAD, UNREAD, ANY, false),
-    Row(UNREAD, UNREAD, UNREAD, ANY, false),
-    Row(PROCESS, UNREAD, UNREAD, ANY, false),
-    Row(UNREAD, UNREAD, UNREAD, ANY, false),
+    Row(PROCESS, UNREAD, NODE, NUMBER, states::FREE, false),
+    Row(PROCESS, UNREAD, NODE, UNREAD, states::ALLOCATED, true),
+    Row(PROCESS, HAZARD, NODE, UNREAD, ANY, false),
+    Row(PROCESS, HAZARD, UNREAD, UNREAD, ANY, false),
+    Row(PROCESS, HAZARD, UNREAD, UNREAD, ANY, false),
+    Row(PROCESS, HAZARD, UNREAD, UNREAD, ANY, false),
+    Row(PROCESS, UNREAD, NODE, UNREAD, states::REACHABLE, false),
+    Row(PROCESS, UNREAD, NODE, UNREAD, states::REMOVED, true),
+    Row(PROCESS, UNREAD, UNREAD, UNREAD, ANY, false),
+    Row(PROCESS, UNREAD, UNREAD, UNREAD, ANY, false),
+    Row(UNREAD, UNREAD, UNREAD, UNREAD, ANY, false),
+    Row(PROCESS, UNREAD, UNREAD, UNREAD, ANY, false),
+    Row(UNREAD, UNREAD, UNREAD, UNREAD, ANY, false),
 ];
 
 // Question 4: is there such a kind?
@@ -82,6 +86,14 @@ pub fn row_of(kind: u32) -> Row
         11 => ROWS[10],
         12 => ROWS[11],
         13 => ROWS[12],
-        _ => Row(UNREAD, UNREAD, UNREAD, ANY, false),
+        _ => Row(UNREAD, UNREAD, UNREAD, UNREAD, ANY, false),
     }
+}
+
+// The guest as a kind reads it: 0 where it does not.
+pub fn guest_read(kind: u32, guest: u32) -> u32
+    ensures { λ r. ⌜ r ≡ guestCode (kindOf kind) guest ⌝ }
+{
+    let row = row_of(kind);
+    if row.3 == NUMBER { guest } else { 0 }
 }

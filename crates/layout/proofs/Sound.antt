@@ -1,6 +1,6 @@
 -- Words of a well-formed domain: its words are sound, and of sound words the head, a process and the nodes, read and written.
 -- Assumes nothing.
-use Prim.Native.Nat.{ℕ, _+_, _*_, _-_, _<_, _≤_}
+use Prim.Native.Nat.{ℕ, _+_, _-_, _<_, _≤_}
 use mathlib.Core.List.{List}
 use mathlib.Core.Path.{_≡_, refl, _∙_, ap}
 use native.Mathlib.Omega.{arith}
@@ -15,7 +15,7 @@ use Rattle.layout.specs.Encode.{shape, processWords, encode, decode, enc
 use Rattle.layout.specs.Sound.{SizesBy, SoundBy, Sound}
 use Rattle.layout.proofs.Room.{rows-small}
 use Rattle.layout.proofs.Encode.{Roomy, laid, encode-length, decode-encode, process-part, process-put}
-use Rattle.layout.proofs.Encode.{nodes-part, nodes-lent}
+use Rattle.layout.proofs.Encode.{nodes-lent}
 
 -- ---- in any layout that holds every well-formed domain
 
@@ -90,10 +90,6 @@ module _ {ws : List ℕ} (s : Sound ws) where
   -- ---- the nodes, from a on
 
   module _ (a : ℕ) (ea : a ≡ nodesStart shape (a₀ .processes) (a₀ .hazards)) where
-    pub nodes-words : drop a ws ≡ shape .nodes .put (decode ws .nodes)
-    unfolding decodeBy
-    nodes-words = ap (λ (r : List ℕ). drop a r) (s .whole) ∙ nodes-part shape (laid (s .domain)) a ea
-
     pub nodes-written : (w : ℕ) (ns : List Node) → w ≡ length ws - a
         → putMid a w ws (shape .nodes .put ns) ≡ encode (withNodes (decode ws) ns)
     unfolding decodeBy

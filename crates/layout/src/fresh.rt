@@ -13,7 +13,7 @@ ghost use Rattle.layout.specs.Words.{between};
 ghost use Rattle.layout.specs.Ranges.{sizesInRange, inRange, sized, lengthFor};
 
 // Is n one of 1 to high?
-fn up_to(high: u32, n: u32) -> bool
+pub fn up_to(high: u32, n: u32) -> bool
     ensures { λ r. ⌜ r ≡ between 1 high n ⌝ }
 {
     (1 <= n) & (n <= high)

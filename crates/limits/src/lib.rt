@@ -1,22 +1,18 @@
-// Words against limits, four at a time and without a branch, so that the compiler makes vectors of it. A limit is kept with its top bit
-// turned, as a vector compares it: it need not be turned again for each word.
+// Words against limits, four at a time and without a branch, so that the compiler makes vectors of it. A limit in a table is kept with its
+// top bit turned, as a vector compares it: it need not be turned again for each word.
 ghost use mathlib.Core.Path.{_≡_};
 ghost use mathlib.Core.Bool.{true, not, _&&_};
-ghost use Prim.Native.Nat.{_+_, _*_, _≤_};
+ghost use Prim.Native.Nat.{_+_, _≤_};
 ghost use lib.ListN.{length};
-ghost use lib.Dec.{leb};
-ghost use Rattle.limits.specs.Limits.{none, turned, within};
+ghost use Rattle.limits.specs.Limits.{none, turned, within, inRow};
 
-// Whether a word was over its limit, by the word's place in its piece of four, whether anything else was amiss, and the states met: each
-// with 1019 added, so that a bit above the lowest ten is set by a state that is not one of 0 to 4. (Of 3 and three bits the loop over the
-// nodes would be three bytes shorter, and its jump would lie over a 32-byte line in every second link.)
+// Whether a word was over its limit, by the word's place in its piece of four, and whether anything else was amiss.
 pub struct Faults {
     pub first: bool,
     pub second: bool,
     pub third: bool,
     pub fourth: bool,
     pub other: bool,
-    pub states: usize,
 }
 
 // No fault yet.
@@ -29,7 +25,6 @@ pub fn no_faults() -> Faults
         third: false,
         fourth: false,
         other: false,
-        states: 0,
     }
 }
 
@@ -37,9 +32,7 @@ pub fn no_faults() -> Faults
 pub fn is_clean(faults: Faults) -> bool
     ensures { λ r. ⌜ r ≡ none faults ⌝ }
 {
-    !faults.first
-        & (!faults.second
-            & (!faults.third & (!faults.fourth & (!faults.other & (faults.states < 1024)))))
+    !faults.first & (!faults.second & (!faults.third & (!faults.fourth & !faults.other)))
 }
 
 // The faults and one more, if it is one.
@@ -52,21 +45,6 @@ pub fn noted(faults: Faults, fault: bool) -> Faults
         third: faults.third,
         fourth: faults.fourth,
         other: faults.other | fault,
-        states: faults.states,
-    }
-}
-
-// The faults and one more, if the state is none of the five.
-pub fn stated(faults: Faults, state: u32) -> Faults
-    ensures { λ r. ⌜ none r ≡ (none faults && leb state 4) ⌝ }
-{
-    Faults {
-        first: faults.first,
-        second: faults.second,
-        third: faults.third,
-        fourth: faults.fourth,
-        other: faults.other,
-        states: faults.states | (layout::wide(state) + 1019),
     }
 }
 
@@ -77,37 +55,32 @@ pub fn turned(x: u32) -> u32
     std::num::wrapping_add_u32(x, 2147483648)
 }
 
-// Four words against four limits.
-pub fn piece(faults: Faults, words: &[u32], at: usize, limits: &[u32], from: usize) -> Faults
-    requires { ⌜ (at + 4 ≤ length (now words)) × (from + 4 ≤ length (now limits)) ⌝ }
-    ensures { λ r. ⌜ none r ≡ (none faults && within (now (words .entry)) at (now (limits .entry)) from 4) ⌝ }
+// Four words, from `at` on, against four limits.
+pub fn piece(faults: Faults, words: &[u32], at: usize, a: u32, b: u32, c: u32, d: u32) -> Faults
+    requires { ⌜ at + 4 ≤ length (now words) ⌝ }
+    ensures { λ r. ⌜ none r ≡ (none faults && within (now (words .entry)) at a b c d) ⌝ }
 {
     Faults {
-        first: faults.first | (words[at] > turned(limits[from])),
-        second: faults.second | (words[at + 1] > turned(limits[from + 1])),
-        third: faults.third | (words[at + 2] > turned(limits[from + 2])),
-        fourth: faults.fourth | (words[at + 3] > turned(limits[from + 3])),
+        first: faults.first | (words[at] > a),
+        second: faults.second | (words[at + 1] > b),
+        third: faults.third | (words[at + 2] > c),
+        fourth: faults.fourth | (words[at + 3] > d),
         other: faults.other,
-        states: faults.states,
     }
 }
 
-// So many pieces of words against as many of limits.
-pub fn pieces(
-    mut faults: Faults,
-    words: &[u32],
-    at: usize,
-    limits: &[u32],
-    from: usize,
-    count: usize,
-) -> Faults
-    requires { ⌜ (at + 4 * count ≤ length (now words)) × (from + 4 * count ≤ length (now limits)) ⌝ }
-    ensures { λ r. ⌜ none r ≡ (none faults && within (now (words .entry)) at (now (limits .entry)) from (4 * count)) ⌝ }
+// Four words against four limits of a table, from `from` on.
+pub fn row(faults: Faults, words: &[u32], at: usize, limits: &[u32], from: usize) -> Faults
+    requires { ⌜ (at + 4 ≤ length (now words)) × (from + 4 ≤ length (now limits)) ⌝ }
+    ensures { λ r. ⌜ none r ≡ (none faults && inRow (now (words .entry)) at (now (limits .entry)) from) ⌝ }
 {
-    let mut i = 0;
-    while i < count {
-        faults = piece(faults, words, at + 4 * i, limits, from + 4 * i);
-        i += 1;
-    }
-    faults
+    piece(
+        faults,
+        words,
+        at,
+        turned(limits[from]),
+        turned(limits[from + 1]),
+        turned(limits[from + 2]),
+        turned(limits[from + 3]),
+    )
 }

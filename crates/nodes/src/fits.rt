@@ -2,22 +2,22 @@
 use layout::NodeId;
 use layout::words::most;
 use layout::words::node_word;
+use layout::words::states;
 use limits::Faults;
 ghost use mathlib.Core.Path.{_≡_};
 ghost use mathlib.Core.Bool.{_&&_};
 ghost use Prim.Native.Nat.{_≤_, _<_};
 ghost use lib.ListN.{length};
-ghost use Rattle.layout.specs.Nodes.{nodesFit};
+ghost use Rattle.model.specs.State.{Retired};
 ghost use Rattle.limits.specs.Limits.{none};
-ghost use Rattle.nodes.specs.Part.{Part};
-ghost use Rattle.nodes.specs.NodeLimits.{limitCount, nodeLimits, nodeWithin};
+ghost use Rattle.nodes.specs.Part.{nodeIn, Part};
+ghost use Rattle.nodes.specs.NodeLimits.{limitCount, nodeLimits, inLimits, NodesFit};
 
-// The limits of a node's words but the state, four a row and a row for each state, and rows for the numbers up to 7, so that a state's
-// last three bits pick one.
-const LIMITS: usize = 32;
+// The limits of a node's words but the state, four a row and a row for each state.
+pub const LIMITS: usize = 20;
 
 // Those limits, turned; last is the last process.
-fn node_limits(last: u32, clock: u32) -> [u32; LIMITS]
+pub fn node_limits(last: u32, clock: u32) -> [u32; LIMITS]
     ensures { λ r. ⌜ r ≡ nodeLimits last clock ⌝ }
 {
     let owner = limits::turned(last);
@@ -37,32 +37,33 @@ fn node_limits(last: u32, clock: u32) -> [u32; LIMITS]
     limits
 }
 
-// Node c.
+// Node c, whose state is one of the five.
 fn node(faults: Faults, nodes: &[u32], m: u32, c: NodeId, limits: &[u32]) -> Faults
-    requires { ⌜ Part m (now nodes) × (c .0 < m) × (length (now limits) ≡ limitCount) ⌝ }
-    ensures { λ r. ⌜ none r ≡ (none faults && nodeWithin (now (limits .entry)) m (now (nodes .entry)) (c .0)) ⌝ }
+    requires { ⌜ Part m (now nodes) × (c .0 < m) × (nodeIn m (now nodes) (c .0) .state ≤ Retired) × (length (now limits) ≡ limitCount) ⌝ }
+    ensures { λ r. ⌜ none r ≡ (none faults && inLimits (now (limits .entry)) m (now (nodes .entry)) (c .0)) ⌝ }
 {
     let state = crate::state_of(nodes, m, c);
     let at = crate::offset(m, c);
-    limits::piece(
-        limits::stated(faults, state),
+    limits::row(
+        faults,
         nodes,
         at + node_word::OWNER,
         limits,
-        layout::wide(state % 8) * 4,
+        layout::wide(state) * 4,
     )
 }
 
-// Whether all m nodes fit, with n processes.
-pub fn nodes_fit(nodes: &[u32], m: u32, n: u32, clock: u32) -> bool
-    requires { ⌜ Part m (now nodes) × (1 ≤ n) ⌝ }
-    ensures { λ r. ⌜ r ≡ nodesFit n clock m (now (nodes .entry)) ⌝ }
+// Whether all m nodes fit, and nothing was amiss before. The limits are laid out by the caller, long before they are read.
+pub fn nodes_fit(mut faults: Faults, nodes: &[u32], m: u32, limits: &[u32]) -> bool
+    requires { ⌜ Part m (now nodes) × (length (now limits) ≡ limitCount) ⌝ }
+    ensures { λ r. ⌜ NodesFit (none faults) m (now (nodes .entry)) (now (limits .entry)) r ⌝ }
 {
-    let limits = node_limits(n - 1, clock);
-    let mut faults = limits::no_faults();
     let mut i: u32 = 0;
     while i < m {
-        faults = node(faults, nodes, m, NodeId(i), &limits);
+        if crate::state_of(nodes, m, NodeId(i)) > states::RETIRED {
+            return false;
+        }
+        faults = node(faults, nodes, m, NodeId(i), limits);
         i += 1;
     }
     limits::is_clean(faults)

@@ -5,3 +5,4 @@ pub mod RefusedForStores
 pub mod Theorems
 pub mod Excluded
 pub mod Checked
+pub mod Turns

@@ -1,15 +1,20 @@
-// The calls: make a domain, how many words it takes, a step, and the reachable count. Each takes any words and any numbers.
+// The calls: make a domain, how many words it takes, a step, a list of steps, and the reachable count. Each takes any words and any
+// numbers.
+mod runs;
+
 use layout::HazardId;
 use layout::NodeId;
 use layout::Params;
 use layout::ProcessId;
+use layout::words::answer_word;
+use layout::words::step_word;
 ghost use mathlib.Core.Path.{_≡_};
 ghost use Rattle.layout.specs.Values.{paramsValue};
-ghost use Rattle.layout.specs.Words.{wellFormed};
 ghost use Rattle.layout.specs.Ranges.{lengthFor};
 ghost use Rattle.qsense.specs.Calls.{makeWords, reachableWords, stepWords};
 ghost use Rattle.domain.specs.Effects.{given};
-ghost use Rattle.qsense.specs.Values.{replyOf, Stepped};
+ghost use Rattle.qsense.specs.Values.{replyOf};
+ghost use Rattle.qsense.specs.Runs.{ranOf, runInto};
 
 // refusal: the number of the first question with the answer no, 0 for accepted.
 pub struct Answer {
@@ -66,27 +71,6 @@ pub fn reachable(words: &[u32]) -> Answer
     }
 }
 
-// One step, on words of which it is known whether they are those of a well-formed domain. The answer is one number, the refusal its low
-// word and the value its high one: two fields would come back through memory, and reading them would take a third of a step.
-pub fn step_checked(
-    words: &mut [u32],
-    good: bool,
-    kind: u32,
-    process: ProcessId,
-    hazard: HazardId,
-    node: NodeId,
-    guest: u32,
-) -> usize
-    requires { ⌜ good ≡ wellFormed (now words) ⌝ }
-    ensures { λ r. ⌜ Stepped good (given kind (process .0) (hazard .0) (node .0) guest) (now (words .entry)) r (now (words .exit)) ⌝ }
-{
-    if !good {
-        return 3;
-    }
-    let answer = steps::step_known(words, kind, process, hazard, node, guest);
-    layout::pair(answer.refusal, answer.value)
-}
-
 // One step. Refused with 3 unless the words are those of a well-formed domain, then with the number of the first of the questions 4 to
 // 17 whose answer is no; refused, the value is 0 and nothing is written.
 pub fn step(
@@ -99,10 +83,28 @@ pub fn step(
 ) -> Answer
     ensures { λ r. ⌜ replyOf r (now (words .exit)) ≡ stepWords (now (words .entry)) (given kind (process .0) (hazard .0) (node .0) guest) ⌝ }
 {
-    let good = wellformed::well_formed(words);
-    let answer = step_checked(words, good, kind, process, hazard, node, guest);
+    let steps = [kind, process.0, hazard.0, node.0, guest];
+    let mut answers = [0u32; answer_word::WIDTH];
+    runs::run_all(words, &steps, &mut answers, 1);
     Answer {
-        refusal: layout::low(answer),
-        value: layout::high(answer),
+        refusal: answers[answer_word::REFUSAL],
+        value: answers[answer_word::VALUE],
     }
+}
+
+// Takes a list of steps, five words each, one after another, and writes their answers, two words each: the words are checked once, and
+// all is as if `step` were called for each. Not taken, and nothing written, unless the lengths are those of a whole number of steps and
+// of as many answers.
+pub fn run(words: &mut [u32], steps: &[u32], answers: &mut [u32]) -> bool
+    ensures { λ r. ⌜ ranOf r (now (words .exit)) (now (answers .exit)) ≡ runInto (now (words .entry)) (now (steps .entry)) (now (answers .entry)) ⌝ }
+{
+    let count = steps.len() / step_word::WIDTH;
+    if steps.len() != step_word::WIDTH * count {
+        return false;
+    }
+    if answers.len() != answer_word::WIDTH * count {
+        return false;
+    }
+    runs::run_all(words, steps, answers, count);
+    true
 }

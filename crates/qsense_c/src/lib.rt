@@ -6,7 +6,7 @@ use layout::ProcessId;
 ghost use mathlib.Core.Path.{_≡_};
 ghost use Rattle.layout.specs.Ranges.{lengthFor};
 ghost use Rattle.qsense.specs.Calls.{makeWords, stepWords, reachableWords};
-ghost use Rattle.runs.specs.Runs.{ranOf, runInto};
+ghost use Rattle.qsense.specs.Runs.{ranOf, runInto};
 ghost use Rattle.domain.specs.Effects.{given};
 ghost use Rattle.qsense_c.specs.Values.{replyOf, paramsOf};
 
@@ -85,7 +85,7 @@ pub extern "C" fn qsense_step(
 pub extern "C" fn qsense_run(words: &mut [u32], steps: &[u32], answers: &mut [u32]) -> bool
     ensures { λ r. ⌜ ranOf r (now (words .exit)) (now (answers .exit)) ≡ runInto (now (words .entry)) (now (steps .entry)) (now (answers .entry)) ⌝ }
 {
-    runs::run(words, steps, answers)
+    qsense::run(words, steps, answers)
 }
 
 // How many nodes are Reachable.

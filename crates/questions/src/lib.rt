@@ -48,10 +48,10 @@ fn state_met(words: &[u32], kind: u32, c: NodeId) -> bool
     ensures { λ r. ⌜ r ≡ answerTo 8 (asked kind (now (words .entry)) 0 0 (c .0)) ⌝ }
 {
     let row = kinds::row_of(kind);
-    if row.3 == kinds::ANY {
+    if row.4 == kinds::ANY {
         return true;
     }
-    read::node(words, c).state == row.3
+    read::node(words, c).state == row.4
 }
 
 // 9: does the process own the node?
@@ -60,7 +60,7 @@ fn owned(words: &[u32], kind: u32, p: ProcessId, c: NodeId) -> bool
     ensures { λ r. ⌜ r ≡ answerTo 9 (asked kind (now (words .entry)) (p .0) 0 (c .0)) ⌝ }
 {
     let row = kinds::row_of(kind);
-    if !row.4 {
+    if !row.5 {
         return true;
     }
     read::node(words, c).owner == p.0

@@ -17,7 +17,7 @@ pub fn allocate(words: &mut [u32], p: ProcessId, c: NodeId, guest: u32) -> u32
         Node {
             state: states::ALLOCATED,
             owner: p.0,
-            guest,
+            guest: kinds::guest_read(kinds::ALLOCATE, guest),
             retired: 0,
             limbo: 0,
         },

@@ -27,10 +27,6 @@ four : (n : ℕ) → n < 4294967296
     → n % 256 + 256 * (n / 256 % 256) + 65536 * (n / 256 / 256 % 256) + 16777216 * (n / 256 / 256 / 256 % 256) ≡ n
 four n h = omega arith
 
-word-back : (n : ℕ) (rest : List ℕ) → n < 4294967296 → wordAt (wordBytes n ++ rest) 0 ≡ n
-unfolding wordAt wordBytes
-word-back n rest h = four n h
-
 -- ---- parameters
 
 pub record Small (a : Params) : Type 0 where

@@ -7,16 +7,69 @@ use mathlib.Core.Path.{_≡_, ap, _∙_}
 use native.Mathlib.Omega.{arith}
 use borrow.Author.Tests.{eq-eqb, ne-eqb}
 use lib.ListN.{length, take, drop, length-take, length-drop}
+use lib.Dec.{leb}
 use lib.Seq.{take-all}
-use Rattle.model.specs.Params.{Params, mostNodes}
+use Rattle.model.specs.Params.{Params, mostProcesses, mostHazards, mostNodes, mostTicks, mostCalls, mostRetired}
+use Rattle.model.specs.Params.{lastClock}
+use Rattle.model.specs.State.{Fallback}
 use Rattle.layout.specs.Shape.{Head, nodesStart, wordCountBy}
 use Rattle.layout.specs.Encode.{shape, nodesPart}
 use Rattle.layout.specs.Nodes.{nodesFit}
-use Rattle.layout.specs.Words.{headFits, processesFit, wellFormedBy, wellFormed}
+use Rattle.layout.specs.Words.{between, headFits, processesFit, wellFormedBy, wellFormed}
 use Rattle.layout.proofs.Room.{rows-small}
 use Rattle.layout.proofs.Checked.{head-facts}
 use Rattle.nodes.specs.Part.{Part}
 use Rattle.wellformed.specs.ProcessLimits.{Ready}
+
+-- ---- the head, word by word: where the first tests say yes, the next one's no is the whole's
+
+module _ (h : Head) where
+  abbrev pub In₁ : Bool → Type 0
+  In₁ b = between 1 mostProcesses (h .params .processes) ≡ b
+
+  abbrev pub In₂ : Bool → Type 0
+  In₂ b = between 1 mostHazards (h .params .hazards) ≡ b
+
+  abbrev pub In₃ : Bool → Type 0
+  In₃ b = between 1 mostNodes (h .params .nodes) ≡ b
+
+  abbrev pub In₄ : Bool → Type 0
+  In₄ b = between 1 mostTicks (h .params .visibilityBound) ≡ b
+
+  abbrev pub In₅ : Bool → Type 0
+  In₅ b = between 1 mostCalls (h .params .quiescenceThreshold) ≡ b
+
+  abbrev pub In₆ : Bool → Type 0
+  In₆ b = between 1 mostRetired (h .params .fallbackThreshold) ≡ b
+
+  pub no₁ : In₁ false → false ≡ headFits h
+  unfolding headFits
+  no₁ e₁ = rw e₁
+
+  pub no₂ : In₁ true → In₂ false → false ≡ headFits h
+  unfolding headFits
+  no₂ e₁ e₂ = rw (e₁, e₂)
+
+  pub no₃ : In₁ true → In₂ true → In₃ false → false ≡ headFits h
+  unfolding headFits
+  no₃ e₁ e₂ e₃ = rw (e₁, e₂, e₃)
+
+  pub no₄ : In₁ true → In₂ true → In₃ true → In₄ false → false ≡ headFits h
+  unfolding headFits
+  no₄ e₁ e₂ e₃ e₄ = rw (e₁, e₂, e₃, e₄)
+
+  pub no₅ : In₁ true → In₂ true → In₃ true → In₄ true → In₅ false → false ≡ headFits h
+  unfolding headFits
+  no₅ e₁ e₂ e₃ e₄ e₅ = rw (e₁, e₂, e₃, e₄, e₅)
+
+  pub no₆ : In₁ true → In₂ true → In₃ true → In₄ true → In₅ true → In₆ false → false ≡ headFits h
+  unfolding headFits
+  no₆ e₁ e₂ e₃ e₄ e₅ e₆ = rw (e₁, e₂, e₃, e₄, e₅, e₆)
+
+  pub all-in : In₁ true → In₂ true → In₃ true → In₄ true → In₅ true → In₆ true
+      → (leb (h .clock) lastClock && (leb (h .path) Fallback && leb (h .epoch) 2)) ≡ headFits h
+  unfolding headFits
+  all-in e₁ e₂ e₃ e₄ e₅ e₆ = rw (e₁, e₂, e₃, e₄, e₅, e₆)
 
 module _ (ws : List ℕ) where
   abbrev h₀ : Head
@@ -52,9 +105,9 @@ module _ (ws : List ℕ) where
   bad-head h = rw h
 
   pub all-fits : (x y : Bool) → headFits h₀ ≡ true → length ws ≡ wordCountBy shape a₀ → x ≡ processesFit ws
-      → y ≡ nodesFit (a₀ .processes) (h₀ .clock) (a₀ .nodes) (nodesPart ws) → (x && y) ≡ wellFormed ws
+      → y ≡ (x && nodesFit (a₀ .processes) (h₀ .clock) (a₀ .nodes) (nodesPart ws)) → y ≡ wellFormed ws
   unfolding wellFormedBy
-  all-fits x y h e hx hy = rw (hx, hy, h, eq-eqb (length ws) (wordCountBy shape a₀) e)
+  all-fits x y h e hx hy = rw (hy, hx, h, eq-eqb (length ws) (wordCountBy shape a₀) e)
 
   -- the nodes' part, from a on, as it is lent
   module _ {a : ℕ} (e : a ≡ nodesStart shape (a₀ .processes) (a₀ .hazards)) where

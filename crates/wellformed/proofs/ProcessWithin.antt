@@ -1,238 +1,242 @@
 -- A process within its limits is one that fits. Assumes nothing.
-use Prim.Native.Nat.{ℕ, suc, _+_, _-_, _*_, _<_, _≤_, min}
-use mathlib.Core.Bool.{Bool, true, false, not, _&&_, cond, and-assoc, and-comm, and-false, Bool·not-not}
+use Prim.Native.Nat.{ℕ, zero, suc, _+_, _-_, _*_, _/_, _%_, _<_, _≤_}
+use mathlib.Core.Bool.{Bool, true, false, not, _&&_, cond, and-assoc, and-false}
 use mathlib.Core.List.{List}
 use mathlib.Core.Path.{_≡_, refl, sym, _∙_, ap}
 use native.Mathlib.Omega.{arith}
-use native.Mathlib.Nat.{add-assoc, mul-le-mul-right}
+use native.Mathlib.Nat.{add-assoc, add-zero, mul-le-mul-right}
+use lib.Bits.{bitAnd, and-zero-r, and-mask}
 use lib.ListN.{length, drop}
-use borrow.Author.Tests.{le-leb, ltb-true, ltb-false}
-use lib.Dec.{leb, ltb, eqb}
+use lib.Dec.{leb, ltb, eqb, eqb·suc-zero}
+use borrow.Author.Tests.{lt-ltb, le-ltb, le-leb, lt-leb, ltb-true, ltb-false}
 use Rattle.lists.specs.Tests.{implies}
 use Rattle.lists.specs.Upto.{allUpto}
-use Rattle.lists.proofs.Compares.{eqb-pair}
-use Rattle.lists.proofs.Upto.{all-ext, all-more, all-at, all-yes}
-use Rattle.lists.proofs.UptoParts.{all-join, all-past, all-threes, all-both}
-use Rattle.model.specs.Params.{Params, Between, mostHazards, bufferSize, hazardWidth, storeWidth, bufferWidth}
-use Rattle.model.specs.State.{lastEpoch}
-use Rattle.layout.specs.Shape.{Lead, word, hazardPlace, storePlace, processWidth, processStart}
+use Rattle.lists.proofs.Upto.{also-none, also-more, all-ext, all-more, all-at, all-follow}
+use Rattle.lists.proofs.UptoParts.{all-join}
+use Rattle.model.specs.Params.{Params, Between, mostHazards, bufferSize, hazardWidth, storeWidth}
+use Rattle.layout.specs.Shape.{Lead, word, hazardPlace, storesPlace, storePlace, processWidth, processStart}
 use Rattle.layout.specs.Encode.{shape, paramsIn}
 use Rattle.layout.specs.Words.{leadFits, hazardFits, storeFits, processFitsBy, processesFit}
-use Rattle.layout.proofs.Places.{lead-from}
-use Rattle.layout.proofs.Fits.{lead-facts}
-use Rattle.limits.specs.Limits.{turned, within, anyWord}
-use Rattle.wellformed.specs.ProcessLimits.{leadLength, leadLimits, hazardLimits, storeLimits, backedIn, backedAt}
-use Rattle.wellformed.specs.ProcessLimits.{processWithin, Ready}
-use Rattle.limits.proofs.Tests.{below, only-zero, turned-back}
-use Rattle.wellformed.proofs.Tables.{slid, slid-past}
+use Rattle.layout.proofs.Places.{leadFrom, lead-from}
+use Rattle.layout.proofs.Fits.{lead-facts, hazard-facts}
+use Rattle.limits.specs.Limits.{within, anyWord}
+use Rattle.limits.proofs.Tests.{below, only-zero}
+use Rattle.wellformed.specs.declared.processes.Limits.{Limits}
+use Rattle.wellformed.specs.declared.processes.Cuts.{Cuts}
+use Rattle.wellformed.specs.ProcessLimits.{cutAt, cutsAt, storeWithin, halfSize, halfWidth, halfWithin}
+use Rattle.wellformed.specs.ProcessLimits.{storesWithin}
+use Rattle.wellformed.specs.ProcessLimits.{hazardWithin, hazardsWithin, leadWithin, processWithin, Ready}
 
--- what the looks at a process leave
-pub process-none : (ws lead hazards stores : List ℕ) (k a i : ℕ) (b v w x y z : Bool) → b ≡ backedAt ws (a + shape .leadWidth) k
-    → w ≡ (v && not (not b)) → x ≡ (w && within ws a lead 0 leadLength)
-    → y ≡ (x && within ws (a + shape .leadWidth) hazards (bufferWidth - hazardWidth * k) bufferWidth)
-    → i ≡ min (word ws (a + 3)) bufferSize
-    → z ≡ (y && within ws (a + shape .leadWidth + hazardWidth * k) stores (bufferWidth - storeWidth * i) bufferWidth)
-    → z ≡ (v && processWithin lead hazards stores k ws a)
-unfolding processWithin
-process-none ws lead hazards stores k a i b v w x y z hb hw hx hy hi hz =
-    let stored : word ws (a + 3) ≡ shape .lead .get (drop a ws) .stores = ap (λ (r : Lead). r .stores) (sym (lead-from ws a)) in
-    rw (hz, hi, stored, hy, hx, hw, hb) (simp (Bool·not-not, and-assoc))
+-- ---- what the looks at the words leave
 
--- the lead by its limits, and by the paper's clauses
-lead-fits : (ws : List ℕ) (a q : ℕ) → q ≤ anyWord → 1 ≤ q → within ws a (leadLimits (q - 1)) 0 leadLength ≡ leadFits q (shape .lead .get (drop a ws))
-unfolding within allUpto leadFits
-lead-fits ws a q h l =
-    rw (
-      turned-back lastEpoch (omega arith),
-      turned-back (q - 1) (omega arith),
-      turned-back 1 (omega arith),
-      turned-back bufferSize (omega arith),
-      below (word ws (a + 1)) q l,
-    )
-    (simp and-assoc)
-    ∙ ap (leadFits q) (sym (lead-from ws a))
-
--- eight looks, the last one again and again, are k looks
-looks : (f : ℕ → Bool) (k : ℕ) → 1 ≤ k → k ≤ 8 → allUpto (λ h. f (min h (k - 1))) 8 ≡ allUpto f k
-looks f k some' few = go (allUpto f k) refl
+-- a limit masked by the top bit d of e - stores: x is 0 or has every bit set
+pub cut-is : (limit e stores d x : ℕ) → limit ≤ anyWord → e ≤ anyWord → stores ≤ anyWord → d ≤ anyWord → x ≤ anyWord
+    → (d + stores) % 4294967296 ≡ e → (x + d / 2147483648) % 4294967296 ≡ 0 → bitAnd limit x ≡ cutAt limit e stores
+unfolding cutAt
+cut-is limit e stores d x hl he hs hd hx ed ex =
+    let q : (e + (4294967296 - stores)) % 4294967296 ≡ d = omega arith in rw q (go (ltb d 2147483648) refl)
   where
-    g : ℕ → Bool
-    g h = f (min h (k - 1))
+    go : (b : Bool) → ltb d 2147483648 ≡ b → bitAnd limit x ≡ cond b 0 limit
+    go true h = let z : x ≡ 0 = omega (arith, ltb-true) in rw z (and-zero-r limit)
+    go false h =
+        let z : x ≡ 4294967295 = omega (arith, ltb-false) in
+        let small : limit % 4294967296 ≡ limit = omega arith in rw z (and-mask limit 32 ∙ small)
 
-    e : 8 ≡ k + (8 - k)
-    e = omega arith
+module _ (l : Limits) (stores : ℕ) (ws : List ℕ) (at : ℕ) where
+  -- three pieces are four places
+  pub half-none : (e : ℕ) (a b c d : Cuts) (v x y z : Bool) → a ≡ cutsAt l e stores → b ≡ cutsAt l (e + 1) stores
+      → c ≡ cutsAt l (e + 2) stores → d ≡ cutsAt l (e + 3) stores
+      → x ≡ (v && within ws at (a .hazard) (a .node) (a .time) (b .hazard))
+      → y ≡ (x && within ws (at + 4) (b .node) (b .time) (c .hazard) (c .node))
+      → z ≡ (y && within ws (at + 8) (c .time) (d .hazard) (d .node) (d .time)) → z ≡ (v && halfWithin l stores ws at e)
+  unfolding within allUpto
+  half-none e a b c d v x y z ea eb ec ed hx hy hz =
+      rw (hz, hy, hx, ea, eb, ec, ed) (simp (and-assoc, add-assoc, add-zero))
 
-    first : allUpto g k ≡ allUpto f k
-    first = all-ext g f k (λ i h. let e : min i (k - 1) ≡ i = omega arith in ap f e)
+  -- and eight are four and four
+  pub buffer-none : (x y z : Bool) → y ≡ (x && halfWithin l stores ws at 0)
+      → z ≡ (y && halfWithin l stores ws (at + halfWidth) halfSize) → z ≡ (x && storesWithin l stores ws at)
+  buffer-none x y z hy hz =
+      let f : ℕ → Bool = λ j. storeWithin l stores ws (at + storeWidth * j) (0 + j) in
+      let more = all-ext (λ j. storeWithin l stores ws (at + halfWidth + storeWidth * j) (halfSize + j)) (λ j. f (halfSize + j)) halfSize
+      (λ j _. let e : at + halfWidth + storeWidth * j ≡ at + storeWidth * (halfSize + j) = omega arith in
+      let q : halfSize + j ≡ 0 + (halfSize + j) = omega arith in λ t. storeWithin l stores ws (e t) (q t)) in
+      rw (hz, hy) (and-assoc x _ _)
+      ∙ ap (λ (b : Bool). x && b) (ap (λ (b : Bool). halfWithin l stores ws at 0 && b) more ∙ sym (all-join f halfSize halfSize))
 
-    split : allUpto g 8 ≡ (allUpto g k && allUpto (λ j. g (k + j)) (8 - k))
-    split = ap (allUpto g) e ∙ all-join g k (8 - k)
+pub hazard-none : (ws : List ℕ) (m before at : ℕ) (x y z : Bool) → at ≡ before + 1
+    → y ≡ (x && not (ltb (word ws (at + 1)) (word ws (at + 2)))) → z ≡ (y && within ws before bufferSize m m 1)
+    → z ≡ (x && hazardWithin m ws before)
+hazard-none ws m before at x y z ea hy hz = rw (hz, hy, ea, add-assoc before 1 1, add-assoc before 1 2) (and-assoc x _ _)
 
-    go : (b : Bool) → allUpto f k ≡ b → allUpto g 8 ≡ b
-    go false q = split ∙ ap (λ (x : Bool). x && allUpto (λ j. g (k + j)) (8 - k)) (first ∙ q)
-    go true q =
-        split
-        ∙ ap (λ (x : Bool). x && allUpto (λ j. g (k + j)) (8 - k)) (first ∙ q)
-        ∙ all-yes (λ j. g (k + j)) (8 - k)
-        (λ i h. let e : min (k + i) (k - 1) ≡ k - 1 = omega arith in ap f e ∙ all-at f k (k - 1) q (omega arith))
+module _ (ws : List ℕ) (m before : ℕ) where
+  pub hazards-start : (x : Bool) → x ≡ (x && hazardsWithin m ws before 0)
+  unfolding hazardsWithin
+  hazards-start x = also-none _ x
 
--- a turn of the loop over a process's hazards, and its end
-pub backed-more : (ws : List ℕ) (a k h i q : ℕ) (b : Bool) → b ≡ allUpto (λ j. backedIn ws (a + 3 * min j (k - 1))) h
-    → i ≡ min h (k - 1) → q ≡ word ws (a + 3 * i + 1) + word ws (a + 3 * i + 2) * 4294967296
-    → (b && not (eqb q 4294967296)) ≡ allUpto (λ j. backedIn ws (a + 3 * min j (k - 1))) (h + 1)
-backed-more ws a k h i q b e hi hq = rw (hq, hi) (all-more (λ j. backedIn ws (a + 3 * min j (k - 1))) h b e)
+  pub hazards-turn : (h : ℕ) (x y z : Bool) → y ≡ (x && hazardsWithin m ws before h)
+      → z ≡ (y && hazardWithin m ws (before + hazardWidth * h)) → z ≡ (x && hazardsWithin m ws before (h + 1))
+  unfolding hazardsWithin
+  hazards-turn h x y z = also-more (λ i. hazardWithin m ws (before + hazardWidth * i)) h x y z
 
-pub backed-all : (ws : List ℕ) (a k : ℕ) (b : Bool) → 1 ≤ k → k ≤ 8 → b ≡ allUpto (λ j. backedIn ws (a + 3 * min j (k - 1))) 8
-    → b ≡ backedAt ws a k
-unfolding backedAt
-backed-all ws a k b some' few e = e ∙ looks (λ h. backedIn ws (a + 3 * h)) k some' few
+pub process-none : (l : Limits) (k : ℕ) (ws : List ℕ) (a from s : ℕ) (v x y z : Bool) → from ≡ a + shape .leadWidth → s ≡ word ws (a + 3)
+    → x ≡ (v && leadWithin (l .calls) ws a) → y ≡ (x && hazardsWithin (l .nodes) ws (from - 1) k)
+    → z ≡ (y && storesWithin l s ws (from + hazardWidth * k)) → z ≡ (v && processWithin l k ws a)
+unfolding processWithin
+process-none l k ws a from s v x y z ef es hx hy hz =
+    let stored : word ws (a + 3) ≡ shape .lead .get (drop a ws) .stores = ap (λ (r : Lead). r .stores) (sym (lead-from ws a)) in
+    rw (hz, hy, hx, ef, es, stored, add-assoc a (shape .leadWidth) (hazardWidth * k)) (simp and-assoc)
 
-unless : (a b : Bool) → not (a && b) ≡ implies b (not a)
-unless true true = refl
-unless true false = refl
-unless false true = refl
-unless false false = refl
+-- ---- the lead by its limits, and by the paper's clauses
 
--- validated is not 1 with 0 assigned
-backed-fits : (d s : ℕ) → s ≤ anyWord → not (eqb (s + d * 4294967296) 4294967296) ≡ implies (eqb d 1) (not (eqb s 0))
-backed-fits d s h = rw (eqb-pair s d 0 1 refl refl (omega arith) (omega arith)) (unless (eqb s 0) (eqb d 1))
+lead-fits : (ws : List ℕ) (a q : ℕ) → 1 ≤ q → leadWithin (q - 1) ws a ≡ leadFits q (shape .lead .get (drop a ws))
+unfolding within leadFits
+lead-fits ws a q l =
+    let by-place : leadWithin (q - 1) ws a ≡ leadFits q (leadFrom ws a) = rw (below (word ws (a + 1)) q l, add-zero a) in
+    by-place ∙ ap (leadFits q) (sym (lead-from ws a))
 
-module _ (ws : List ℕ) (words : (j : ℕ) → word ws j ≤ anyWord) (k m : ℕ) (hm : m ≤ anyWord) (few : k ≤ 8) where
-  -- the word j of the hazards from place a on within its limit
-  abbrev inHazards : ℕ → ℕ → Bool
-  inHazards a j = leb (word ws (a + j)) (turned (word (hazardLimits m) (24 - 3 * k + j)))
+-- ---- a buffer, of at most eight stores
 
-  hazard-fits : (a h : ℕ) → h < k
-      → ((inHazards a (3 * h) && (inHazards a (3 * h + 1) && inHazards a (3 * h + 2)))
-      && backedIn ws (a + 3 * h))
-      ≡ hazardFits m ws (a + 3 * h)
-  unfolding hazardFits
-  hazard-fits a h l =
-      rw (
-        slid (turned m) (turned m) (turned 1) (turned anyWord) k few (3 * h) h 0 (omega arith) l (omega arith),
-        slid (turned m) (turned m) (turned 1) (turned anyWord) k few (3 * h + 1) h 1 (omega arith) l (omega arith),
-        slid (turned m) (turned m) (turned 1) (turned anyWord) k few (3 * h + 2) h 2 (omega arith) l (omega arith),
-        turned-back m hm,
-        turned-back 1 (omega arith),
-        ← add-assoc a (3 * h) 1,
-        ← add-assoc a (3 * h) 2,
-      )
-      (simp and-assoc (rw (backed-fits (word ws (a + 3 * h + 2)) (word ws (a + 3 * h + 1)) (words (a + 3 * h + 1)))))
+cut-cases : (limit e stores : ℕ) → e < bufferSize → stores ≤ bufferSize → cutAt limit e stores ≡ cond (ltb e stores) limit 0
+unfolding cutAt
+cut-cases limit e stores he hs = go (ltb e stores) refl
+  where
+    top : ℕ
+    top = (e + (4294967296 - stores)) % 4294967296
 
-  hazards-fit : (a : ℕ) → (within ws a (hazardLimits m) (bufferWidth - hazardWidth * k) bufferWidth && backedAt ws a k)
-      ≡ allUpto (λ h. hazardFits m ws (a + 3 * h)) k
-  unfolding within backedAt
-  hazards-fit a =
-      let e : 24 ≡ 3 * k + (bufferWidth - hazardWidth * k) = omega arith in
-      let past = all-past (inHazards a) (3 * k) (bufferWidth - hazardWidth * k)
-      (λ i l u. rw (slid-past (turned m) (turned m) (turned 1) (turned anyWord) k few i l (omega arith), turned-back anyWord (omega arith)) (le-leb (word ws (a + i)) anyWord (words (a + i)))) in
-      let f : ℕ → Bool = λ h. inHazards a (3 * h) && (inHazards a (3 * h + 1) && inHazards a (3 * h + 2)) in
-      let g : ℕ → Bool = λ h. backedIn ws (a + 3 * h) in
-      rw (ap (allUpto (inHazards a)) e ∙ past ∙ all-threes (inHazards a) k, all-both f g k)
-      (all-ext (λ h. f h && g h) (λ h. hazardFits m ws (a + 3 * h)) k (hazard-fits a))
+    go : (b : Bool) → ltb e stores ≡ b → cond (ltb top 2147483648) 0 limit ≡ cond b limit 0
+    go true h =
+        let i : e < stores = ltb-true e stores h in
+        let z : 2147483648 ≤ (e + (4294967296 - stores)) % 4294967296 = omega arith in rw (le-ltb top 2147483648 z)
+    go false h =
+        let i : stores ≤ e = ltb-false e stores h in
+        let z : (e + (4294967296 - stores)) % 4294967296 < 2147483648 = omega arith in rw (lt-ltb top 2147483648 z)
 
-module _ (ws : List ℕ) (s k m clock : ℕ) (hk : k ≤ 8) (hm : m ≤ anyWord) (hc : clock ≤ anyWord) (some' : 1 ≤ k) (few : s ≤ 8) where
-  -- the word j of the buffer from place a on within its limit
-  abbrev inBuffer : ℕ → ℕ → Bool
-  inBuffer a j = leb (word ws (a + j)) (turned (word (storeLimits (k - 1) m clock) (24 - 3 * s + j)))
-
-  store-fits : (a e : ℕ) → e < 8 → (inBuffer a (3 * e) && (inBuffer a (3 * e + 1) && inBuffer a (3 * e + 2))) ≡ storeFits s k m clock ws (a + 3 * e) e
+module _ (l : Limits) (stores k : ℕ) (ws : List ℕ) (some' : 1 ≤ k) (ek : l .hazard ≡ k - 1) (few : stores ≤ bufferSize) where
+  store-fits : (a e : ℕ) → e < bufferSize → storeWithin l stores ws a e ≡ storeFits stores k (l .nodes) (l .clock) ws a e
   unfolding storeFits
-  store-fits a e l = go (ltb e s) refl
+  store-fits a e h =
+      rw (
+        cut-cases (l .hazard) e stores h few,
+        cut-cases (l .nodes) e stores h few,
+        cut-cases (l .clock) e stores h few,
+        ek,
+      )
+      (go (ltb e stores))
     where
-      go : (b : Bool) → ltb e s ≡ b
-          → (inBuffer a (3 * e) && (inBuffer a (3 * e + 1) && inBuffer a (3 * e + 2)))
+      go : (b : Bool)
+          → (leb (word ws a) (cond b (k - 1) 0) && (leb (word ws (a + 1)) (cond b (l .nodes) 0) && leb (word ws (a + 2)) (cond b (l .clock) 0)))
           ≡ cond b
-          (ltb (word ws (a + 3 * e)) k && (leb (word ws (a + 3 * e + 1)) m && leb (word ws (a + 3 * e + 2)) clock))
-          (eqb (word ws (a + 3 * e)) 0 && (eqb (word ws (a + 3 * e + 1)) 0 && eqb (word ws (a + 3 * e + 2)) 0))
-      go true h =
-          let i : e < s = ltb-true e s h in
-          rw (
-            slid (turned (k - 1)) (turned m) (turned clock) (turned 0) s few (3 * e) e 0 (omega arith) i (omega arith),
-            slid (turned (k - 1)) (turned m) (turned clock) (turned 0) s few (3 * e + 1) e 1 (omega arith) i (omega arith),
-            slid (turned (k - 1)) (turned m) (turned clock) (turned 0) s few (3 * e + 2) e 2 (omega arith) i (omega arith),
-            turned-back (k - 1) (omega arith),
-            turned-back m hm,
-            turned-back clock hc,
-            ← add-assoc a (3 * e) 1,
-            ← add-assoc a (3 * e) 2,
-            below (word ws (a + 3 * e)) k some',
-          )
-      go false h =
-          let i : s ≤ e = ltb-false e s h in
-          rw (
-            slid-past (turned (k - 1)) (turned m) (turned clock) (turned 0) s few (3 * e) (omega arith) (omega arith),
-            slid-past (turned (k - 1)) (turned m) (turned clock) (turned 0) s few (3 * e + 1) (omega arith) (omega arith),
-            slid-past (turned (k - 1)) (turned m) (turned clock) (turned 0) s few (3 * e + 2) (omega arith) (omega arith),
-            turned-back 0 (omega arith),
-            ← add-assoc a (3 * e) 1,
-            ← add-assoc a (3 * e) 2,
-          )
-          (simp only-zero)
+          (ltb (word ws a) k && (leb (word ws (a + 1)) (l .nodes) && leb (word ws (a + 2)) (l .clock)))
+          (eqb (word ws a) 0 && (eqb (word ws (a + 1)) 0 && eqb (word ws (a + 2)) 0))
+      go true = rw (below (word ws a) k some')
+      go false = simp only-zero
 
-  stores-fit : (a : ℕ) → within ws a (storeLimits (k - 1) m clock) (bufferWidth - storeWidth * min s bufferSize) bufferWidth ≡ allUpto (λ e. storeFits s k m clock ws (a + 3 * e) e) 8
-  unfolding within
-  stores-fit a =
-      let z : min s 8 ≡ s = omega arith in
-      rw (z, all-threes (inBuffer a) 8)
-      (all-ext
-      (λ e. inBuffer a (3 * e) && (inBuffer a (3 * e + 1) && inBuffer a (3 * e + 2)))
-      (λ e. storeFits s k m clock ws (a + 3 * e) e)
-      8
-      (store-fits a))
+-- ---- hazards, after a word that is at most the number of stores
+
+backed : (d s : ℕ) → (not (ltb s d) && leb d 1) ≡ (leb d 1 && implies (eqb d 1) (not (eqb s 0)))
+backed zero s = rw (le-ltb s 0 (omega arith))
+backed (suc zero) zero = refl
+backed (suc zero) (suc s) = rw (le-ltb (suc s) 1 (omega arith), eqb·suc-zero s)
+backed (suc (suc d)) s = rw (lt-leb (suc (suc d)) 1 (omega arith)) (and-false (not (ltb s (suc (suc d)))))
+
+spread : (n v s d i : Bool) → (n && d) ≡ (d && i) → (n && (v && (s && d))) ≡ (v && (s && (d && i)))
+spread n true true d i h = h
+spread n true false d i h = and-false n
+spread n false s d i h = and-false n
+
+module _ (ws : List ℕ) (m : ℕ) where
+  hazard-fits : (b : ℕ) → word ws b ≤ bufferSize → hazardWithin m ws b ≡ hazardFits m ws (b + 1)
+  unfolding within hazardFits
+  hazard-fits b h =
+      rw (le-leb (word ws b) bufferSize h, add-assoc b 1 1, add-assoc b 1 2)
+      (spread
+      (not (ltb (word ws (b + 2)) (word ws (b + 3))))
+      (leb (word ws (b + 1)) m)
+      (leb (word ws (b + 2)) m)
+      (leb (word ws (b + 3)) 1)
+      (implies (eqb (word ws (b + 3)) 1) (not (eqb (word ws (b + 2)) 0)))
+      (backed (word ws (b + 3)) (word ws (b + 2))))
+
+  -- the word before a hazard is the last of the one before it
+  hazards-fit : (p : Params) → p .nodes ≡ m → (b k : ℕ) → word ws b ≤ bufferSize
+      → hazardsWithin m ws b k ≡ allUpto (λ h. hazardFits m ws (b + 1 + hazardWidth * h)) k
+  unfolding hazardsWithin
+  hazards-fit p em b k h = all-follow within' fits k (λ i l e. hazard-fits (b + hazardWidth * i) (before i e) ∙ moved i)
+    where
+      within' : ℕ → Bool
+      within' i = hazardWithin m ws (b + hazardWidth * i)
+
+      fits : ℕ → Bool
+      fits i = hazardFits m ws (b + 1 + hazardWidth * i)
+
+      moved : (i : ℕ) → hazardFits m ws (b + hazardWidth * i + 1) ≡ fits i
+      moved i = let e : b + hazardWidth * i + 1 ≡ b + 1 + hazardWidth * i = omega arith in ap (hazardFits m ws) e
+
+      before : (i : ℕ) → allUpto fits i ≡ true → word ws (b + hazardWidth * i) ≤ bufferSize
+      before zero e = rw add-zero h
+      before (suc i) e =
+          let fit : hazardFits (p .nodes) ws (b + 1 + hazardWidth * i) ≡ true = rw em (all-at fits (suc i) i e (omega arith)) in
+          let last = hazard-facts p ws (b + 1 + hazardWidth * i) fit .validated in
+          let q : b + 1 + hazardWidth * i + 2 ≡ b + hazardWidth * suc i = omega arith in
+          let r : word ws (b + hazardWidth * suc i) ≤ 1 = rw q at last in omega arith
 
 -- ---- a process
 
-module _ (ws : List ℕ) (words : (j : ℕ) → word ws j ≤ anyWord) (p : Params) (clock a : ℕ) (hm : p .nodes ≤ anyWord) (hc : clock ≤ anyWord)
-    (few : Between 1 mostHazards (p .hazards)) where
+-- the limits are those of a domain's numbers
+pub record LimitsOf (p : Params) (now' : ℕ) (l : Limits) : Type 0 where
+  pub calls : l .calls ≡ p .quiescenceThreshold - 1
+  pub hazard : l .hazard ≡ p .hazards - 1
+  pub nodes : l .nodes ≡ p .nodes
+  pub clock : l .clock ≡ now'
+
+module _ (ws : List ℕ) (p : Params) (clock a : ℕ) (l : Limits) (of : LimitsOf p clock l) (few : Between 1 mostHazards (p .hazards)) where
   abbrev k : ℕ
   k = p .hazards
-
-  abbrev from : ℕ
-  from = a + shape .leadWidth
 
   abbrev lead : Lead
   lead = shape .lead .get (drop a ws)
 
-  hazards-are : allUpto (λ h. hazardFits (p .nodes) ws (from + hazardWidth * h)) k ≡ allUpto (λ h. hazardFits (p .nodes) ws (a + hazardPlace shape h)) k
-  hazards-are =
-      all-ext _ _ k
-      (λ h _. let e : from + hazardWidth * h ≡ a + hazardPlace shape h = omega arith in ap (λ (i : ℕ). hazardFits (p .nodes) ws i) e)
+  abbrev hazardsFit : Bool
+  hazardsFit = allUpto (λ h. hazardFits (p .nodes) ws (a + hazardPlace shape h)) k
 
-  abbrev storeAt : ℕ → ℕ → Bool
-  storeAt e i = storeFits (lead .stores) k (p .nodes) clock ws i e
+  abbrev storeAt : ℕ → Bool
+  storeAt e = storeFits (lead .stores) k (p .nodes) clock ws (a + storePlace shape k e) e
 
-  stores-are : allUpto (λ e. storeAt e (from + hazardWidth * k + storeWidth * e)) bufferSize
-      ≡ allUpto (λ e. storeAt e (a + storePlace shape k e)) bufferSize
-  stores-are =
-      all-ext _ _ bufferSize
-      (λ e _. let q : from + hazardWidth * k + storeWidth * e ≡ a + storePlace shape k e = omega arith in ap (λ (i : ℕ). storeAt e i) q)
+  hazards-are : lead .stores ≤ bufferSize → hazardsWithin (l .nodes) ws (a + shape .leadWidth - 1) k ≡ hazardsFit
+  hazards-are h =
+      let e : a + shape .leadWidth - 1 ≡ a + 3 = omega arith in
+      let stored : word ws (a + 3) ≡ lead .stores = ap (λ (r : Lead). r .stores) (sym (lead-from ws a)) in
+      (λ t. hazardsWithin (of .nodes t) ws (e t) k)
+      ∙ hazards-fit ws (p .nodes) p refl (a + 3) k (rw (← stored) at h)
+      ∙ all-ext _ _ k
+      (λ i _. let q : a + 3 + 1 + hazardWidth * i ≡ a + hazardPlace shape i = omega arith in ap (hazardFits (p .nodes) ws) q)
 
-  -- where the lead does not fit, nothing else is looked at
+  stores-are : lead .stores ≤ bufferSize → storesWithin l (lead .stores) ws (a + storesPlace shape k) ≡ allUpto storeAt bufferSize
+  stores-are h =
+      all-ext _ storeAt bufferSize
+      (λ e i. let q : a + storesPlace shape k + storeWidth * e ≡ a + storePlace shape k e = omega arith in
+      let z : 0 + e ≡ e = omega arith in
+      (λ t. storeWithin l (lead .stores) ws (q t) (z t))
+      ∙ store-fits l (lead .stores) k ws (few .0) (of .hazard) h (a + storePlace shape k e) e i
+      ∙ (λ t. storeFits (lead .stores) k (of .nodes t) (of .clock t) ws (a + storePlace shape k e) e))
+
+  -- where the lead does not fit, nothing else matters
   rest-fits : (b : Bool) → leadFits (p .quiescenceThreshold) lead ≡ b
-      → (backedAt ws from k
-      && (b
-      && (within ws from (hazardLimits (p .nodes)) (bufferWidth - hazardWidth * k) bufferWidth
-      && within ws (from + hazardWidth * k) (storeLimits (k - 1) (p .nodes) clock) (bufferWidth - storeWidth * min (lead .stores) bufferSize) bufferWidth)))
-      ≡ (b
-      && (allUpto (λ h. hazardFits (p .nodes) ws (a + hazardPlace shape h)) k && allUpto (λ e. storeAt e (a + storePlace shape k e)) bufferSize))
-  rest-fits false e = and-false (backedAt ws from k)
+      → (b
+      && (hazardsWithin (l .nodes) ws (a + shape .leadWidth - 1) k && storesWithin l (lead .stores) ws (a + storesPlace shape k)))
+      ≡ (b && (hazardsFit && allUpto storeAt bufferSize))
+  rest-fits false e = refl
   rest-fits true e =
-      let l = lead-facts (p .quiescenceThreshold) lead e in
-      let hazards : Bool = within ws from (hazardLimits (p .nodes)) (bufferWidth - hazardWidth * k) bufferWidth in
-      sym (and-assoc (backedAt ws from k) hazards _)
-      ∙ (λ t. (and-comm (backedAt ws from k) hazards
-      ∙ (hazards-fit ws words k (p .nodes) hm (few .1) from ∙ hazards-are)) t
-      && (stores-fit ws (lead .stores) k (p .nodes) clock (few .1) hm hc (few .0) (l .stores) (from + hazardWidth * k) ∙ stores-are) t)
+      let h = lead-facts (p .quiescenceThreshold) lead e .stores in λ t. hazards-are h t && stores-are h t
 
-  pub process-fits : p .quiescenceThreshold ≤ anyWord → 1 ≤ p .quiescenceThreshold
-      → processWithin (leadLimits (p .quiescenceThreshold - 1)) (hazardLimits (p .nodes)) (storeLimits (k - 1) (p .nodes) clock) k ws a
-      ≡ processFitsBy shape p clock ws a
+  pub process-fits : 1 ≤ p .quiescenceThreshold → processWithin l k ws a ≡ processFitsBy shape p clock ws a
   unfolding processWithin processFitsBy
-  process-fits hq q =
-      rw (lead-fits ws a (p .quiescenceThreshold) hq q) (rest-fits (leadFits (p .quiescenceThreshold) lead) refl)
+  process-fits q =
+      rw (of .calls, lead-fits ws a (p .quiescenceThreshold) q) (rest-fits (leadFits (p .quiescenceThreshold) lead) refl)
 
--- a turn of the loop over the processes, and its end
+-- ---- a turn of the loop over the processes, and its end
+
 module _ (ws : List ℕ) where
   abbrev a₀ : Params
   a₀ = paramsIn ws
@@ -243,13 +247,11 @@ module _ (ws : List ℕ) where
   abbrev pub fits : ℕ → Bool
   fits p = processFitsBy shape a₀ clock₀ ws (processStart shape (a₀ .hazards) p)
 
-  pub process-turn : ((j : ℕ) → word ws j ≤ anyWord) → Ready ws → (lead hazards stores : List ℕ) (k at p : ℕ) (x y : Bool)
-      → k ≡ a₀ .hazards → lead ≡ leadLimits (a₀ .quiescenceThreshold - 1) → hazards ≡ hazardLimits (a₀ .nodes)
-      → stores ≡ storeLimits (a₀ .hazards - 1) (a₀ .nodes) clock₀ → at ≡ processStart shape (a₀ .hazards) p → x ≡ allUpto fits p
-      → y ≡ (x && processWithin lead hazards stores k ws at) → y ≡ allUpto fits (p + 1)
-  process-turn words ready lead hazards stores k at p x y ek el eh es ea hx hy =
-      let fit = process-fits ws words a₀ clock₀ (processStart shape (a₀ .hazards) p) (words 2) (words 6) (ready .sizes .hazards) in
-      rw (hy, ek, el, eh, es, ea, fit (words 4) (ready .quiescence)) (all-more fits p x hx)
+  pub process-turn : Ready ws → (l : Limits) → LimitsOf a₀ clock₀ l → (k at p : ℕ) (x y : Bool) → k ≡ a₀ .hazards
+      → at ≡ processStart shape (a₀ .hazards) p → x ≡ allUpto fits p → y ≡ (x && processWithin l k ws at) → y ≡ allUpto fits (p + 1)
+  process-turn ready l of k at p x y ek ea hx hy =
+      let fit = process-fits ws a₀ clock₀ (processStart shape (a₀ .hazards) p) l of (ready .sizes .hazards) (ready .quiescence) in
+      rw (hy, ek, ea, fit) (all-more fits p x hx)
 
   pub processes-end : (p : ℕ) (x y : Bool) → p ≡ a₀ .processes → x ≡ allUpto fits p → y ≡ x → y ≡ processesFit ws
   processes-end p x y e hx hy = rw (hy, hx, e)

@@ -1,61 +1,68 @@
 -- A process that fits, as the code looks at it: each word at most a limit that goes by its place. Assumes nothing.
-use Prim.Native.Nat.{ℕ, zero, suc, _+_, _-_, _*_, _≤_, min}
-use mathlib.Core.Bool.{Bool, not, _&&_}
-use mathlib.Core.List.{List, [], _∷_}
-use lib.ListN.{drop, replicate}
-use lib.Dec.{eqb}
+use Prim.Native.Nat.{ℕ, _+_, _-_, _*_, _%_, _≤_}
+use mathlib.Core.Bool.{Bool, not, _&&_, cond}
+use mathlib.Core.List.{List}
+use lib.ListN.{drop}
+use lib.Dec.{leb, ltb}
 use Rattle.lists.specs.Upto.{allUpto}
-use Rattle.model.specs.Params.{bufferSize, hazardWidth, storeWidth, bufferWidth}
+use Rattle.model.specs.Params.{bufferSize, hazardWidth, storeWidth}
 use Rattle.model.specs.State.{lastEpoch}
-use Rattle.layout.specs.Shape.{word}
+use Rattle.layout.specs.Shape.{word, storesPlace}
 use Rattle.layout.specs.Encode.{shape, paramsIn}
 use Rattle.layout.specs.Sound.{Sizes}
-use Rattle.limits.specs.Limits.{turned, within, anyWord}
+use Rattle.limits.specs.Limits.{within}
+use Rattle.wellformed.specs.declared.processes.Limits.{Limits}
+use Rattle.wellformed.specs.declared.processes.Cuts.{Cuts}
 
--- the limits of a lead, each turned, in whole pieces of four: any word past the lead
-abbrev pub leadLength : ℕ
-leadLength = 4
+-- the limit of a word of place e of a buffer, by the top bit of e - stores in 32 bits: with at most 8 stores, 0 past them
+unfoldable pub cutAt : ℕ → ℕ → ℕ → ℕ
+cutAt limit e stores = cond (ltb ((e + (4294967296 - stores)) % 4294967296) 2147483648) 0 limit
 
-abbrev pub leadLimits : ℕ → List ℕ
-leadLimits last = turned lastEpoch ∷ turned last ∷ turned 1 ∷ turned bufferSize ∷ []
+abbrev pub cutsAt : Limits → ℕ → ℕ → Cuts
+cutsAt l e stores =
+    record { hazard = cutAt (l .hazard) e stores; node = cutAt (l .nodes) e stores; time = cutAt (l .clock) e stores }
 
--- three limits over and over, then others
-abbrev pub threes : ℕ → ℕ → ℕ → ℕ → List ℕ → List ℕ
-threes a b c zero others = others
-threes a b c (suc n) others = a ∷ b ∷ c ∷ threes a b c n others
+-- place e of a buffer, which stands at place a: hazard, node, time
+abbrev pub storeWithin : Limits → ℕ → List ℕ → ℕ → ℕ → Bool
+storeWithin l stores ws a e =
+    leb (word ws a) (cutAt (l .hazard) e stores)
+    && (leb (word ws (a + 1)) (cutAt (l .nodes) e stores)
+    && leb (word ws (a + 2)) (cutAt (l .clock) e stores))
 
--- three limits for each of eight rows and then one for as many words: read from bufferWidth - 3 * n on it limits n rows by those three,
--- and the other words of bufferWidth by that one
-abbrev pub slideWidth : ℕ
-slideWidth = bufferWidth + bufferWidth
+-- so many places, from place e on; half of them; all
+abbrev pub placesWithin : Limits → ℕ → List ℕ → ℕ → ℕ → ℕ → Bool
+placesWithin l stores ws a e count = allUpto (λ j. storeWithin l stores ws (a + storeWidth * j) (e + j)) count
 
-abbrev pub sliding : ℕ → ℕ → ℕ → ℕ → List ℕ
-sliding a b c rest = threes a b c bufferSize (replicate bufferWidth rest)
+abbrev pub halfSize : ℕ
+halfSize = 4
 
--- visible, assigned and validated of each hazard; any word past them
-abbrev pub hazardLimits : ℕ → List ℕ
-hazardLimits m = sliding (turned m) (turned m) (turned 1) (turned anyWord)
+abbrev pub halfWidth : ℕ
+halfWidth = storeWidth * halfSize
 
--- hazard, node and time of each pending store; 0 past them
-abbrev pub storeLimits : ℕ → ℕ → ℕ → List ℕ
-storeLimits last m clock = sliding (turned last) (turned m) (turned clock) (turned 0)
+abbrev pub halfWithin : Limits → ℕ → List ℕ → ℕ → ℕ → Bool
+halfWithin l stores ws a e = placesWithin l stores ws a e halfSize
 
--- the hazard at place a is not validated with no node assigned; the two words are taken as one number
-abbrev pub backedIn : List ℕ → ℕ → Bool
-backedIn ws a = not (eqb (word ws (a + 1) + word ws (a + 2) * 4294967296) 4294967296)
+abbrev pub storesWithin : Limits → ℕ → List ℕ → ℕ → Bool
+storesWithin l stores ws a = placesWithin l stores ws a 0 bufferSize
 
--- nor is any of the k hazards from place a on
-unfoldable pub backedAt : List ℕ → ℕ → ℕ → Bool
-backedAt ws a k = allUpto (λ h. backedIn ws (a + hazardWidth * h)) k
+-- a hazard and the word before it, which is a number of stores or whether another hazard is validated; validated is at most assigned
+abbrev pub hazardWithin : ℕ → List ℕ → ℕ → Bool
+hazardWithin m ws before =
+    not (ltb (word ws (before + 2)) (word ws (before + 3))) && within ws before bufferSize m m 1
+
+unfoldable pub hazardsWithin : ℕ → List ℕ → ℕ → ℕ → Bool
+hazardsWithin m ws before k = allUpto (λ h. hazardWithin m ws (before + hazardWidth * h)) k
+
+-- epoch, calls, presence, stores
+abbrev pub leadWithin : ℕ → List ℕ → ℕ → Bool
+leadWithin calls ws a = within ws a lastEpoch calls 1 bufferSize
 
 -- a process at place a, with k hazards
-unfoldable pub processWithin : List ℕ → List ℕ → List ℕ → ℕ → List ℕ → ℕ → Bool
-processWithin lead hazards stores k ws a =
-    backedAt ws (a + shape .leadWidth) k
-    && (within ws a lead 0 leadLength
-    && (within ws (a + shape .leadWidth) hazards (bufferWidth - hazardWidth * k) bufferWidth
-    && within ws (a + shape .leadWidth + hazardWidth * k) stores
-    (bufferWidth - storeWidth * min (shape .lead .get (drop a ws) .stores) bufferSize) bufferWidth))
+unfoldable pub processWithin : Limits → ℕ → List ℕ → ℕ → Bool
+processWithin l k ws a =
+    leadWithin (l .calls) ws a
+    && (hazardsWithin (l .nodes) ws (a + shape .leadWidth - 1) k
+    && storesWithin l (shape .lead .get (drop a ws) .stores) ws (a + storesPlace shape k))
 
 -- the numbers that the check of the processes goes by
 pub record Ready (ws : List ℕ) : Type 0 where

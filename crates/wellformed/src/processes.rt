@@ -1,5 +1,5 @@
-// Whether the words of the processes are those of a well-formed domain: each word at most a limit that goes by its
-// place.
+// Whether the words of the processes are those of a well-formed domain: each word at most a limit that goes by its place. The limits are
+// numbers, which the compiler keeps in registers: a table of them would be laid out at each call and read back before it is there.
 use layout::words::hazard_word;
 use layout::words::head_word;
 use layout::words::lead_word;
@@ -8,167 +8,156 @@ use layout::words::store_word;
 use limits::Faults;
 ghost use mathlib.Core.Path.{_≡_};
 ghost use mathlib.Core.Bool.{_&&_};
-ghost use Prim.Native.Nat.{_+_, _*_, _≤_, min};
+ghost use Prim.Native.Nat.{_+_, _*_, _≤_};
 ghost use lib.ListN.{length};
-ghost use Rattle.model.specs.Params.{Between, mostHazards, hazardWidth};
+ghost use Rattle.model.specs.Params.{mostHazards, hazardWidth, bufferWidth};
 ghost use Rattle.layout.specs.Shape.{processWidth};
 ghost use Rattle.layout.specs.Encode.{shape};
 ghost use Rattle.layout.specs.Words.{processesFit};
 ghost use Rattle.limits.specs.Limits.{none};
-ghost use Rattle.wellformed.specs.ProcessLimits.{leadLength, leadLimits, slideWidth, sliding};
-ghost use Rattle.wellformed.specs.ProcessLimits.{hazardLimits, storeLimits, backedAt, processWithin, Ready};
+ghost use Rattle.wellformed.specs.ProcessLimits.{cutAt, cutsAt, halfSize, halfWidth, halfWithin, storesWithin};
+ghost use Rattle.wellformed.specs.ProcessLimits.{hazardWithin, hazardsWithin, leadWithin, processWithin, Ready};
 
-// The rows of hazards and of pending stores, where there are most.
-const ROWS: usize = most::BUFFER / store_word::WIDTH;
+// What a process's words go by: the last count of calls, the last hazard, the number of nodes, the clock.
+struct Limits {
+    calls: u32,
+    hazard: u32,
+    nodes: u32,
+    clock: u32,
+}
 
-// A table of limits: three for each of eight rows, then one for as many words, so that read from further back it limits fewer rows.
-const SLIDE: usize = 2 * most::BUFFER;
+// The limits of one place of a buffer.
+struct Cuts {
+    hazard: u32,
+    node: u32,
+    time: u32,
+}
 
-// The pieces of four words that a lead takes, and their words.
-const LEAD_PIECES: usize = 1;
+// Half the places of a buffer, and their words: three pieces of four.
+const HALF: usize = most::BUFFER / 2;
 
-const LEAD: usize = 4 * LEAD_PIECES;
+const HALF_PLACES: u32 = most::STORES / 2;
 
-// The pieces of four words that a buffer has, and the hazards where there are most.
-const PIECES: usize = most::BUFFER / 4;
-
-// A hazard's assigned node and validation as one number: none assigned, and validated.
-const UNBACKED: usize = 4294967296;
-
-// Eight times three limits, then one for the rest.
-fn slide(a: u32, b: u32, c: u32, rest: u32) -> [u32; SLIDE]
-    ensures { λ r. ⌜ r ≡ sliding a b c rest ⌝ }
+// The limit of a word of place e of a buffer: 0 past the stores. (The top bit of e - stores, in all bits.)
+fn cut(limit: u32, e: u32, stores: u32) -> u32
+    ensures { λ r. ⌜ r ≡ cutAt limit e stores ⌝ }
 {
-    let mut limits = [rest; SLIDE];
-    let mut i = 0;
-    while i < ROWS {
-        limits[store_word::WIDTH * i] = a;
-        limits[store_word::WIDTH * i + 1] = b;
-        limits[store_word::WIDTH * i + 2] = c;
-        i += 1;
+    limit & std::num::wrapping_sub_u32(0, std::num::wrapping_sub_u32(e, stores) >> 31)
+}
+
+// Those of place e.
+fn cuts_of(limits: Limits, e: u32, stores: u32) -> Cuts
+    ensures { λ r. ⌜ r ≡ cutsAt limits e stores ⌝ }
+{
+    Cuts {
+        hazard: cut(limits.hazard, e, stores),
+        node: cut(limits.nodes, e, stores),
+        time: cut(limits.clock, e, stores),
     }
-    limits
 }
 
-// The limits of a process's hazards.
-fn hazard_limits(m: u32) -> [u32; SLIDE]
-    ensures { λ r. ⌜ r ≡ hazardLimits m ⌝ }
+// Four places of a buffer, from place e, at `at`, on.
+fn half(faults: Faults, words: &[u32], at: usize, e: u32, stores: u32, limits: Limits) -> Faults
+    requires { ⌜ (at + halfWidth ≤ length (now words)) × (e ≤ halfSize) ⌝ }
+    ensures { λ r. ⌜ none r ≡ (none faults && halfWithin limits stores (now (words .entry)) at e) ⌝ }
 {
-    let node = limits::turned(m);
-    let validated = limits::turned(1);
-    let past = limits::turned(most::CLOCK);
-    slide(node, node, validated, past)
+    let second = at + 4;
+    let third = at + 8;
+    let a = cuts_of(limits, e, stores);
+    let b = cuts_of(limits, e + 1, stores);
+    let c = cuts_of(limits, e + 2, stores);
+    let d = cuts_of(limits, e + 3, stores);
+    let one = limits::piece(faults, words, at, a.hazard, a.node, a.time, b.hazard);
+    let two = limits::piece(one, words, second, b.node, b.time, c.hazard, c.node);
+    limits::piece(two, words, third, c.time, d.hazard, d.node, d.time)
 }
 
-// The limits of a process's pending stores; last is the last hazard.
-fn store_limits(last: u32, m: u32, clock: u32) -> [u32; SLIDE]
-    ensures { λ r. ⌜ r ≡ storeLimits last m clock ⌝ }
+// All places of a buffer.
+fn buffer(faults: Faults, words: &[u32], at: usize, stores: u32, limits: Limits) -> Faults
+    requires { ⌜ at + bufferWidth ≤ length (now words) ⌝ }
+    ensures { λ r. ⌜ none r ≡ (none faults && storesWithin limits stores (now (words .entry)) at) ⌝ }
 {
-    let hazard = limits::turned(last);
-    let node = limits::turned(m);
-    let time = limits::turned(clock);
-    let past = limits::turned(0);
-    slide(hazard, node, time, past)
+    let one = half(faults, words, at, 0, stores, limits);
+    half(one, words, at + HALF, HALF_PLACES, stores, limits)
 }
 
-// n, or the last one where it is more.
-fn at_most(n: usize, last: usize) -> usize
-    ensures { λ r. ⌜ (r ≡ min n last) × (r ≤ last) ⌝ }
+// A hazard, with the word before it, so that it is a piece of four: that word is a number of stores, or whether the hazard before is
+// validated. Only where a node is assigned may it be validated.
+fn hazard(faults: Faults, words: &[u32], before: usize, m: u32) -> Faults
+    requires { ⌜ before + 4 ≤ length (now words) ⌝ }
+    ensures { λ r. ⌜ none r ≡ (none faults && hazardWithin m (now (words .entry)) before) ⌝ }
 {
-    if n < last { n } else { last }
-}
-
-// The limits of a process's lead, in whole pieces; last is the last count of calls. A lead of more words has more pieces, and any word
-// past it.
-fn lead_limits(last: u32) -> [u32; LEAD]
-    ensures { λ r. ⌜ r ≡ leadLimits last ⌝ }
-{
-    let epoch = limits::turned(most::EPOCH);
-    let calls = limits::turned(last);
-    let presence = limits::turned(1);
-    let stores = limits::turned(most::STORES);
-    [epoch, calls, presence, stores]
-}
-
-// Whether none of k hazards, the words from `at` on, is validated with no node assigned: the two words are compared at once. There are
-// always eight looks, the last hazard being looked at again where there are fewer, so that the compiler needs no loop.
-fn backed(words: &[u32], at: usize, k: usize) -> bool
-    requires { ⌜ Between 1 mostHazards k × (at + hazardWidth * k ≤ length (now words)) ⌝ }
-    ensures { λ r. ⌜ r ≡ backedAt (now (words .entry)) at k ⌝ }
-{
-    let mut ok = true;
-    let mut h = 0;
-    while h < ROWS {
-        let i = at_most(h, k - 1);
-        let from = at + hazard_word::WIDTH * i;
-        ok = ok
-            & (layout::pair(
-                words[from + hazard_word::ASSIGNED],
-                words[from + hazard_word::VALIDATED],
-            )
-                != UNBACKED);
-        h += 1;
-    }
-    ok
-}
-
-// The process whose words start at `at`.
-fn process(
-    faults: Faults,
-    words: &[u32],
-    at: usize,
-    k: usize,
-    lead: &[u32],
-    hazards: &[u32],
-    stores: &[u32],
-) -> Faults
-    requires { ⌜ Between 1 mostHazards k × (at + processWidth shape k ≤ length (now words)) ⌝ }
-    requires { ⌜ (length (now lead) ≡ leadLength) × (length (now hazards) ≡ slideWidth) × (length (now stores) ≡ slideWidth) ⌝ }
-    ensures { λ r. ⌜ none r ≡ (none faults && processWithin (now (lead .entry)) (now (hazards .entry)) (now (stores .entry)) k (now (words .entry)) at) ⌝ }
-{
-    let from = at + lead_word::WIDTH;
-    let one = limits::noted(faults, !backed(words, from, k));
-    let two = limits::pieces(one, words, at, lead, 0, LEAD_PIECES);
-    let three = limits::pieces(
-        two,
+    let at = before + 1;
+    let unbacked = words[at + hazard_word::VALIDATED] > words[at + hazard_word::ASSIGNED];
+    limits::piece(
+        limits::noted(faults, unbacked),
         words,
-        from,
-        hazards,
-        most::BUFFER - hazard_word::WIDTH * k,
-        PIECES,
-    );
-    limits::pieces(
-        three,
-        words,
-        from + hazard_word::WIDTH * k,
-        stores,
-        most::BUFFER
-            - store_word::WIDTH * at_most(layout::wide(words[at + lead_word::STORES]), ROWS),
-        PIECES,
+        before,
+        most::STORES,
+        m,
+        m,
+        1,
     )
 }
 
-// Whether every process fits.
-pub fn processes_fit(words: &[u32]) -> bool
+// The k hazards after the word `before`.
+fn hazards(mut faults: Faults, words: &[u32], before: usize, k: usize, m: u32) -> Faults
+    requires { ⌜ (k ≤ mostHazards) × (before + 1 + hazardWidth * k ≤ length (now words)) ⌝ }
+    ensures { λ r. ⌜ none r ≡ (none faults && hazardsWithin m (now (words .entry)) before k) ⌝ }
+{
+    let mut h = 0;
+    while h < k {
+        faults = hazard(faults, words, before + hazard_word::WIDTH * h, m);
+        h += 1;
+    }
+    faults
+}
+
+// A process's lead. (One of more words takes a further piece, which ends where the lead ends.)
+fn lead(faults: Faults, words: &[u32], at: usize, calls: u32) -> Faults
+    requires { ⌜ at + shape .leadWidth ≤ length (now words) ⌝ }
+    ensures { λ r. ⌜ none r ≡ (none faults && leadWithin calls (now (words .entry)) at) ⌝ }
+{
+    limits::piece(faults, words, at, most::EPOCH, calls, 1, most::STORES)
+}
+
+// The process whose words start at `at`.
+fn process(faults: Faults, words: &[u32], at: usize, k: usize, limits: Limits) -> Faults
+    requires { ⌜ (k ≤ mostHazards) × (at + processWidth shape k ≤ length (now words)) ⌝ }
+    ensures { λ r. ⌜ none r ≡ (none faults && processWithin limits k (now (words .entry)) at) ⌝ }
+{
+    let from = at + lead_word::WIDTH;
+    let one = lead(faults, words, at, limits.calls);
+    let two = hazards(one, words, from - 1, k, limits.nodes);
+    buffer(
+        two,
+        words,
+        from + hazard_word::WIDTH * k,
+        words[at + lead_word::STORES],
+        limits,
+    )
+}
+
+// What is amiss with the processes.
+pub fn processes_faults(words: &[u32]) -> Faults
     requires { ⌜ Ready (now words) ⌝ }
-    ensures { λ r. ⌜ r ≡ processesFit (now (words .entry)) ⌝ }
+    ensures { λ r. ⌜ none r ≡ processesFit (now (words .entry)) ⌝ }
 {
     let count = layout::wide(words[head_word::PROCESSES]);
     let k = layout::wide(words[head_word::HAZARDS]);
-    let lead = lead_limits(words[head_word::QUIESCENCE] - 1);
-    let hazards = hazard_limits(words[head_word::NODES]);
-    let stores = store_limits(
-        words[head_word::HAZARDS] - 1,
-        words[head_word::NODES],
-        words[head_word::CLOCK],
-    );
+    let limits = Limits {
+        calls: words[head_word::QUIESCENCE] - 1,
+        hazard: words[head_word::HAZARDS] - 1,
+        nodes: words[head_word::NODES],
+        clock: words[head_word::CLOCK],
+    };
     let mut faults = limits::no_faults();
     let mut at = head_word::WIDTH;
     let mut p = 0;
     while p < count {
-        faults = process(faults, words, at, k, &lead, &hazards, &stores);
+        faults = process(faults, words, at, k, limits);
         at += layout::process_width(k);
         p += 1;
     }
-    limits::is_clean(faults)
+    faults
 }

@@ -17,7 +17,7 @@ row-of-requires c κs = search needs
 returns : tie.Need-returns
 returns c =
     let k = kindOf (c .before .before .before .before .args .kind) in
-    let any = eq-eqb (neededCode (rowOf k .needs)) 5 (sym (ap (λ r. r .3) (c .before .before .row-of .ensures)) ∙ c .if1 .taken) in
+    let any = eq-eqb (neededCode (rowOf k .needs)) 5 (sym (ap (λ r. r .4) (c .before .before .row-of .ensures)) ∙ c .if1 .taken) in
     let m = nodeIn (c .before .before .before .before .args .words .now) (c .before .before .before .before .args .c .0) .state in
     ap (λ b. b || eqb m (neededCode (rowOf k .needs))) (sym any) ∙ state-asked k m
 
@@ -27,7 +27,7 @@ node-requires c κs = search needs
 returns-2 : tie.Need-returns-2
 returns-2 c =
     let k = kindOf (c .before .before .before .before .before .before .before .args .kind) in
-    let row = ap (λ r. r .3) (c .before .before .before .before .before .row-of .ensures) in
+    let row = ap (λ r. r .4) (c .before .before .before .before .before .row-of .ensures) in
     let one = ne-eqb (neededCode (rowOf k .needs)) 5 (λ e. c .before .before .before .if1 .left (row ∙ e)) in
     let m = nodeIn (c .before .before .before .before .before .before .before .args .words .now) (c .before .before .before .before .before .before .before .args .c .0) .state in
     (λ t. eqb (c .before .before .node .ensures t .state) (row t))

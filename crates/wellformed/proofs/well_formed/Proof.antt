@@ -1,29 +1,32 @@
--- `wellformed::well_formed` meets its contract: three tests with an early no, then the processes and the nodes. Assumes nothing.
-use mathlib.Core.Bool.{true}
-use mathlib.Core.Path.{_≡_, sym, _∙_}
-use borrow.Author.Tests.{not-true, not-false}
-use Rattle.layout.specs.Shape.{wordCountBy}
-use Rattle.layout.specs.Encode.{shape, paramsIn}
-use Rattle.layout.specs.Words.{headFits}
+-- `wellformed::well_formed` meets its contract: three ways out with no, and the test of processes and nodes. The head's facts are handed
+-- on by `head`, the length by `long`. Assumes nothing.
+use Rattle.wellformed.proofs.Head.{ready, too-short, bad-head, bad-length, all-fits, nodes-are, nodes-lent}
+use Rattle.wellformed.proofs.Head.{words-long}
+use Rattle.limits.specs.Limits.{none}
 use Rattle.layout.proofs.Checked.{head-facts}
-use Rattle.wellformed.proofs.Head.{ready, too-short, bad-head, bad-length, all-fits, nodes-are, nodes-lent, words-long}
+use Rattle.layout.specs.Words.{headFits}
+use Rattle.layout.specs.Encode.{shape, paramsIn}
+use Rattle.layout.specs.Shape.{wordCountBy}
+use borrow.Author.Tests.{not-true, not-false}
 use lib.ListN.{length}
+use mathlib.Core.Path.{_≡_, sym, ap, _∙_}
+use mathlib.Core.Bool.{Bool, true, _&&_}
 use native.Mathlib.Omega.{arith}
 use borrow.Author.Needs.{needs}
 use Rattle.wellformed.proofs.well_formed.Statement.{statement}
 use Rattle.wellformed.proofs.well_formed.Tie as tie
 
 -- past the head's test
-
 head : (c : tie.Else2) → headFits (shape .head .get (c .before .before .before .before .args .words .now)) ≡ true
 head c = sym (c .before .head-fits .ensures) ∙ not-false (c .before .head-fits .result) (c .if2 .left)
 
 -- past the length's
-long : (c : tie.Else3) → let ws = c .before .before .before .before .before .before .before .before .before .before .args .words .now in length ws ≡ wordCountBy shape (paramsIn ws)
+long : (c : tie.Else3)
+    → let ws = c .before .before .before .before .before .before .before .before .before .before .args .words .now in length ws ≡ wordCountBy shape (paramsIn ws)
 long c =
-    let at-start = c .before .before in
-    let start = at-start .before .before .before .before .before .before .before .before in
-    c .if3 .left ∙ words-long (start .args .words .now) (at-start .process-start .ensures .0) (c .before .nodes-width .ensures)
+    let at-process-start = c .before .before in
+    let start = at-process-start .before .before .before .before .before .before .before .before in
+    c .if3 .left ∙ words-long (start .args .words .now) (at-process-start .process-start .ensures .0) (c .before .nodes-width .ensures)
 
 returns : tie.Need-returns
 returns c = too-short (c .before .before .args .words .now) (omega arith)
@@ -33,7 +36,8 @@ head-fits-requires c κs = search needs
 
 returns-2 : tie.Need-returns-2
 returns-2 c =
-    bad-head (c .before .before .before .before .args .words .now) (sym (c .before .head-fits .ensures) ∙ not-true (c .before .head-fits .result) (c .if2 .taken))
+    let start = c .before .before .before .before in
+    bad-head (start .args .words .now) (sym (c .before .head-fits .ensures) ∙ not-true (c .before .head-fits .result) (c .if2 .taken))
 
 shared-slice-read-n : tie.Need-shared-slice-read-n
 shared-slice-read-n c = search needs
@@ -48,23 +52,39 @@ process-start-requires : tie.Need-process-start-requires
 process-start-requires c κs = let r = head-facts _ (head (c .before .before .before)) .params in (r .hazards .1, r .processes .1)
 
 nodes-width-requires : tie.Need-nodes-width-requires
-nodes-width-requires c κs = head-facts _ (head (c .before .before .before .before)) .params .nodes .1
+nodes-width-requires c κs =
+    let past-head = c .before .before .before .before in
+    head-facts _ (head past-head) .params .nodes .1
 
 add-if3 : tie.Need-add-if3
 add-if3 c =
-    let r = head-facts _ (head (c .before .before .before .before .before)) .params in
+    let past-head = c .before .before .before .before .before in
+    let r = head-facts _ (head past-head) .params in
     omega (arith, c .before .process-start .ensures .1, c .nodes-width .ensures, r .nodes .1)
 
 returns-3 : tie.Need-returns-3
 returns-3 c =
-    let ws = c .before .before .before .before .before .before .before .before .before .before .args .words .now in
-    bad-length ws (λ e. c .if3 .taken (e ∙ sym (words-long ws (c .before .before .process-start .ensures .0) (c .before .nodes-width .ensures))))
+    let at-process-start = c .before .before in
+    let start = at-process-start .before .before .before .before .before .before .before .before in
+    let ws = start .args .words .now in
+    bad-length ws (λ e. c .if3 .taken (e ∙ sym (words-long ws (at-process-start .process-start .ensures .0) (c .before .nodes-width .ensures))))
 
-shared-slice-read-clock : tie.Need-shared-slice-read-clock
-shared-slice-read-clock c = search needs
+sub-node-limits : tie.Need-sub-node-limits
+sub-node-limits c =
+    let past-head = c .before .before .before .before .before .before in
+    omega (arith, head-facts _ (head past-head) .params .processes .0)
 
-processes-fit-requires : tie.Need-processes-fit-requires
-processes-fit-requires c κs = ready _ (head (c .before .before .before .before .before .before .before)) (long (c .before))
+shared-slice-read-node-limits : tie.Need-shared-slice-read-node-limits
+shared-slice-read-node-limits c = search needs
+
+node-limits-requires : tie.Need-node-limits-requires
+node-limits-requires c κs = search needs
+
+processes-faults-requires : tie.Need-processes-faults-requires
+processes-faults-requires c κs =
+    let past-length = c .before .before in
+    let past-head = past-length .before .before .before .before .before .before in
+    ready _ (head past-head) (long past-length)
 
 mul-nodes-fit : tie.Need-mul-nodes-fit
 mul-nodes-fit c = search needs
@@ -78,20 +98,33 @@ part-nodes-fit-start c = search needs
 part-nodes-fit-end : tie.Need-part-nodes-fit-end
 part-nodes-fit-end c = search needs
 
+slice-aggregate-nodes-fit : tie.Need-slice-aggregate-nodes-fit
+slice-aggregate-nodes-fit c = search needs
+
 nodes-fit-requires : tie.Need-nodes-fit-requires
 nodes-fit-requires c κs =
-    let r = head-facts _ (head (c .before .before .before .before .before .before .before .before .before)) .params in
-    let at-start = c .before .before .before .before .before in
-    let start = at-start .before .before .before .before .before .before .before .before in
-    (nodes-lent (start .args .words .now) (at-start .process-start .ensures .0) (r .nodes .1) (long (c .before .before .before)), r .processes .0)
+    let past-length = c .before .before .before .before .before in
+    let at-process-start = past-length .before .before in
+    let past-head = at-process-start .before .before .before .before in
+    let start = past-head .before .before .before .before in
+    let r = head-facts _ (head past-head) .params in
+    (nodes-lent (start .args .words .now) (at-process-start .process-start .ensures .0) (r .nodes .1) (long past-length), search needs)
 
 returns-4 : tie.Need-returns-4
 returns-4 c =
-    let at-start = c .before .before .before .before .before .before in
-    let start = at-start .before .before .before .before .before .before .before .before in
+    let at-processes-faults = c .before .before .before in
+    let at-node-limits = at-processes-faults .before in
+    let past-length = at-node-limits .before .before in
+    let at-process-start = past-length .before .before in
+    let past-head = at-process-start .before .before .before .before in
+    let at-shared-slice-known = past-head .before .before .before in
+    let start = at-shared-slice-known .before in
     let ws = start .args .words .now in
-    all-fits ws _ _ (head (c .before .before .before .before .before .before .before .before .before .before)) (long (c .before .before .before .before)) (c .before .before .processes-fit .ensures)
-    (c .nodes-fit .ensures ∙ nodes-are ws (at-start .process-start .ensures .0))
+    let r = head-facts _ (head past-head) .params in
+    let nodes' = c .nodes-fit .ensures _ _ (r .processes .0) (omega (arith, r .processes .1))
+    (omega (arith, at-shared-slice-known .shared-slice-known .given 6)) (at-node-limits .node-limits .ensures) in
+    all-fits ws (none (at-processes-faults .processes-faults .result)) _ (head past-head) (long past-length) (at-processes-faults .processes-faults .ensures)
+    (nodes' ∙ ap (λ (b : Bool). none (at-processes-faults .processes-faults .result) && b) (nodes-are ws (at-process-start .process-start .ensures .0)))
 
 pub well-formed-spec : {M : Type 1} → statement M
 well-formed-spec =
@@ -107,11 +140,14 @@ well-formed-spec =
     nodes-width-requires
     add-if3
     returns-3
-    shared-slice-read-clock
-    processes-fit-requires
+    sub-node-limits
+    shared-slice-read-node-limits
+    node-limits-requires
+    processes-faults-requires
     mul-nodes-fit
     sub-nodes-fit
     part-nodes-fit-start
     part-nodes-fit-end
+    slice-aggregate-nodes-fit
     nodes-fit-requires
     returns-4)

@@ -1,6 +1,8 @@
 //! Runs by kind of step: short cycles of accepted steps, again and again.
 
+use crate::goals;
 use crate::rows::{run, shape};
+use crate::table::Table;
 use harness::model::domain::Domain;
 use harness::model::mistake::Rules;
 use harness::model::words::words_of;
@@ -38,7 +40,7 @@ const CYCLES: [Cycle; 9] = [
 ];
 
 /// All steps are of process 0, hazard 0 and node 0, on a fresh domain; where manage frees, on one of a single process.
-pub fn all(params: Params) {
+pub fn all(params: Params, table: &mut Table) {
     for cycle in CYCLES {
         let alone = cycle.again.contains(&Retire);
         let params = if alone { Params { processes: 1, ..params } } else { params };
@@ -50,6 +52,7 @@ pub fn all(params: Params) {
         let start = words_of(&model.domain);
         let schedule: Vec<_> = cycle.again.iter().map(step).cycle().take(STEPS).collect();
         assert!(schedule.iter().all(|&(_, step)| model.step(step).refusal == 0), "{}", cycle.name);
-        run(&format!("{}, run: {}", shape(params), cycle.name), &start, &schedule);
+        let name = format!("{}, run: {}", shape(params), cycle.name);
+        run(table, &name, &start, &schedule, goals::cycle(cycle.name));
     }
 }

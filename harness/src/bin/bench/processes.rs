@@ -1,8 +1,9 @@
 //! A book of 5,000 steps through whole processes: the program `desk`, the same in plain C, and the same by the model.
 
+use crate::goals;
 use crate::race::{race, Work};
 use crate::rows::shape;
-use crate::table::{line, Row};
+use crate::table::{Row, Table};
 use harness::book::{print, write};
 use harness::model::mistake::Rules;
 use harness::model::Model;
@@ -15,6 +16,7 @@ use std::path::Path;
 use std::process::{Command, Output};
 
 const STEPS: usize = 5_000;
+const ROUNDS: u32 = 300;
 
 struct Process<'a> {
     program: &'a Path,
@@ -34,7 +36,7 @@ impl Work for Process<'_> {
     }
 }
 
-pub fn all(params: Params, desk: &Path, plain: &Path) {
+pub fn all(params: Params, table: &mut Table, desk: &Path, plain: &Path) {
     let path = std::env::temp_dir().join(format!("qsense-bench-{}.book", std::process::id()));
     let book = write(params, &schedule(params), 0);
     std::fs::write(&path, &book).expect("a file in the folder for temporary files");
@@ -44,10 +46,10 @@ pub fn all(params: Params, desk: &Path, plain: &Path) {
         assert_eq!(String::from_utf8_lossy(&process.output().stdout), print(&book), "{}", process.program.display());
     }
     let mut empty = Process { program: "true".as_ref(), book: &path };
-    let best = race(100, STEPS, &mut [&mut desk, &mut plain, &mut model, &mut empty]);
+    let best = race(ROUNDS, STEPS, &mut [&mut desk, &mut plain, &mut model, &mut empty]);
     let name = format!("{}, a book of {STEPS} steps as a process, per step", shape(params));
-    line(&name, Row { library: best[0], plain: best[1], model: best[2], ..Row::default() });
-    println!("to start and end a program that does nothing (true) takes {:.2} of C's time", best[3] / best[1]);
+    let row = Row { library: best[0], plain: best[1], model: best[2], nothing: Some(best[3]), ..Row::default() };
+    table.line(&name, row, goals::book(params));
     std::fs::remove_file(&path).expect("the file that was written");
 }
 

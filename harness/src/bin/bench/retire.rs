@@ -1,9 +1,10 @@
 //! A retire that scans all nodes with every hazard set, when few, many or all of the nodes are due.
 
 use crate::callers::{ByModel, Caller};
+use crate::goals;
 use crate::race::{race, Steps, Work};
 use crate::rows::shape;
-use crate::table::{line, Row};
+use crate::table::{Row, Table};
 use harness::library::{PLAIN, QSENSE};
 use harness::model::domain::{Domain, Node, Path};
 use harness::model::words::words_of;
@@ -16,7 +17,7 @@ const DOMAINS: usize = 16;
 const ROUNDS: u32 = 3_000;
 const MODEL_ROUNDS: u32 = 300;
 
-pub fn all(params: Params) {
+pub fn all(params: Params, table: &mut Table) {
     // the node in hand is 0 ticks old, so at most all the others are due
     let most = params.nodes as usize - 1;
     let mut dues = vec![most.min(3), most * 67 / 255, most];
@@ -29,13 +30,16 @@ pub fn all(params: Params) {
     let shape = shape(params);
     for (due, (best, model)) in dues.iter().zip(best.chunks_exact(4).zip(model.chunks_exact(2))) {
         let row = |library, plain, model| Row { library, plain, model, ..Row::default() };
-        line(&format!("{shape}, retire with scan, {due} nodes due"), row(best[0], best[1], model[0]));
+        table.line(&format!("{shape}, retire with scan, {due} nodes due"), row(best[0], best[1], model[0]), None);
         let less = row(best[0] - best[2], best[1] - best[3], model[0] - model[1]);
-        line(&format!("{shape}, the same less its check, {due} nodes due"), less);
+        table.line(&format!("{shape}, the same less its check, {due} nodes due"), less, None);
     }
     let library = best.chunks_exact(4).map(|best| best[0]);
     let (least, most) = library.fold((f64::MAX, 0f64), |(least, most), t| (least.min(t), most.max(t)));
     println!("the library's slowest of these retires takes {:.2} of its fastest", most / least);
+    if let Some(goal) = goals::retires(params) {
+        table.judge(&format!("{shape}, slowest of the retires"), goal, most / least);
+    }
 }
 
 /// From each start, a retire by each caller, then an unknown step, which is answered right after the check: all in turns.

@@ -1,8 +1,9 @@
 //! Check, step, run and count at one shape, on one domain and on 64 in turn.
 
 use crate::callers::ByModel;
+use crate::goals::{self, Goal};
 use crate::race::{race, Counts, Run, Steps, Work};
-use crate::table::{line, Row};
+use crate::table::{Row, Table};
 use harness::arbitrary;
 use harness::library::{PLAIN, QSENSE, TRUSTING};
 use harness::model::mistake::Rules;
@@ -13,7 +14,7 @@ use harness::random::Random;
 use harness::schedule::Mood;
 use harness::step::Step;
 
-const ROUNDS: u32 = 200;
+const ROUNDS: u32 = 800;
 const MODEL_ROUNDS: u32 = 10;
 const STEPS: usize = 5_000;
 
@@ -54,17 +55,18 @@ fn running(random: &mut Random, params: Params) -> Model {
     }
 }
 
-pub fn all(params: Params) {
+pub fn all(params: Params, table: &mut Table) {
     let shape = shape(params);
     for domains in [1, 64] {
         let plan = Plan::new(params, domains);
         let name =
             |what: &str| format!("{shape}, {what}, {domains} domain{}", if domains == 1 { "" } else { "s in turn" });
-        steps(&name("check alone"), &plan.start, &plan.unknown());
-        steps(&name("step"), &plan.start, &plan.schedule);
-        count(&name("reachable count"), &plan.start);
+        steps(table, &name("check alone"), &plan.start, &plan.unknown(), goals::check(params, domains));
+        steps(table, &name("step"), &plan.start, &plan.schedule, goals::call(params));
+        count(table, &name("reachable count"), &plan.start, goals::call(params));
         if domains == 1 {
-            run(&format!("{shape}, run of {STEPS} steps"), &plan.start[0], &plan.schedule);
+            let name = format!("{shape}, run of {STEPS} steps");
+            run(table, &name, &plan.start[0], &plan.schedule, goals::mixed_run(params));
         }
     }
 }
@@ -74,29 +76,30 @@ pub fn shape(params: Params) -> String {
     format!("{} {} {}", params.processes, params.hazards, params.nodes)
 }
 
-fn steps(name: &str, start: &[Vec<u32>], schedule: &[(usize, Step)]) {
+fn steps(table: &mut Table, name: &str, start: &[Vec<u32>], schedule: &[(usize, Step)], goal: Option<Goal>) {
     let [mut library, mut plain] = [&QSENSE, &PLAIN].map(|calls| Steps::new(calls, start, schedule));
     let best = race(ROUNDS, STEPS, &mut [&mut library, &mut plain]);
     let model = model(STEPS, &mut Steps::new(&ByModel, start, schedule));
-    line(name, Row { library: best[0], plain: best[1], model, ..Row::default() });
+    table.line(name, Row { library: best[0], plain: best[1], model, ..Row::default() }, goal);
 }
 
-fn count(name: &str, domains: &[Vec<u32>]) {
+fn count(table: &mut Table, name: &str, domains: &[Vec<u32>], goal: Option<Goal>) {
     let [mut library, mut plain] = [&QSENSE, &PLAIN].map(|caller| Counts { caller, domains, turns: STEPS });
     let best = race(ROUNDS, STEPS, &mut [&mut library, &mut plain]);
     let model = model(STEPS, &mut Counts { caller: &ByModel, domains, turns: STEPS });
-    line(name, Row { library: best[0], plain: best[1], model, ..Row::default() });
+    table.line(name, Row { library: best[0], plain: best[1], model, ..Row::default() }, goal);
 }
 
 /// A run by the library, by C that checks before each step, by C that checks once and trusts itself, and by the model, which reads the
 /// words once.
-pub fn run(name: &str, start: &[u32], schedule: &[(usize, Step)]) {
+pub fn run(table: &mut Table, name: &str, start: &[u32], schedule: &[(usize, Step)], goal: Option<Goal>) {
     let steps: Vec<u32> = schedule.iter().flat_map(|(_, step)| step.numbers()).collect();
     let [mut library, mut plain, mut trusting] =
         [&QSENSE, &PLAIN, &TRUSTING].map(|calls| Run::new(calls, start, &steps));
     let best = race(ROUNDS, schedule.len(), &mut [&mut library, &mut plain, &mut trusting]);
     let model = model(schedule.len(), &mut Run::new(&ByModel, start, &steps));
-    line(name, Row { library: best[0], plain: best[1], trusting: Some(best[2]), model });
+    let row = Row { library: best[0], plain: best[1], trusting: Some(best[2]), model, ..Row::default() };
+    table.line(name, row, goal);
 }
 
 /// The model by itself, in fewer rounds.

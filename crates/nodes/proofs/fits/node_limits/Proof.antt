@@ -1,4 +1,4 @@
--- `node_check::node_limits` meets its contract: five numbers turned, at their places. Assumes nothing.
+-- `fits::node_limits` meets its contract: five numbers turned, at their places. Assumes nothing.
 use borrow.Author.Needs.{needs}
 use Rattle.nodes.proofs.fits.node_limits.Statement.{statement}
 use Rattle.nodes.proofs.fits.node_limits.Tie as tie
@@ -46,7 +46,12 @@ array-write-limits-9 : tie.Need-array-write-limits-9
 array-write-limits-9 c = search needs
 
 returns : tie.Need-returns
-returns c = rw (c .before .before .before .before .turned .ensures, c .before .before .before .turned2 .ensures, c .before .before .turned3 .ensures, c .before .turned4 .ensures, c .turned5 .ensures)
+returns c =
+    let at-fourth = c .before in
+    let at-third = at-fourth .before in
+    let at-second = at-third .before in
+    let at-first = at-second .before in
+    rw (at-first .turned .ensures, at-second .turned2 .ensures, at-third .turned3 .ensures, at-fourth .turned4 .ensures, c .turned5 .ensures)
 
 pub node-limits-spec : {M : Type 1} → statement M
 node-limits-spec =

@@ -1,36 +1,32 @@
--- `fits::nodes_fit` meets its contract. The invariant: the first i nodes fit. The measure: the nodes that are left. Assumes nothing.
-use Prim.Native.Nat.{_≤_, _-_}
-use mathlib.Core.Path.{_≡_, _∙_}
-use lib.ListN.{length}
-use Rattle.lists.proofs.Upto.{all-none}
+-- `fits::nodes_fit` meets its contract. The invariant: the first i nodes fit, and nothing was amiss before. The measure: the nodes that
+-- are left. Assumes nothing.
+use Rattle.nodes.proofs.ByState.{nodes-start, nodes-turn, nodes-stop, nodes-end}
+use Rattle.nodes.specs.NodeLimits.{NodesFit}
 use Rattle.limits.specs.Limits.{none}
-use Rattle.nodes.specs.NodeLimits.{limitCount}
-use Rattle.nodes.proofs.ByState.{fitUpto, node-turn, nodes-end}
+use Prim.Native.Nat.{_≤_, _-_}
 use native.Mathlib.Omega.{arith}
 use borrow.Author.Needs.{needs}
 use Rattle.nodes.proofs.fits.nodes_fit.Statement.{statement}
 use Rattle.nodes.proofs.fits.nodes_fit.Tie as tie
 
 abbrev Inv-loop : tie.InvT-loop
-Inv-loop nodes m n clock limits faults₀ i₀ faults i = (i ≤ m) × (length limits ≡ limitCount) × (none faults ≡ fitUpto n clock nodes i)
+Inv-loop faults₀ nodes m limits i₀ faults i = (i ≤ m) × NodesFit (none faults₀) i nodes limits (none faults)
 
 abbrev μ-loop : tie.MeasureT-loop
-μ-loop nodes m n clock limits faults₀ i₀ faults i = m - i
-
-sub-node-limits : tie.Need-sub-node-limits Inv-loop μ-loop
-sub-node-limits c = search needs
-
-node-limits-requires : tie.Need-node-limits-requires Inv-loop μ-loop
-node-limits-requires c κs = search needs
-
-no-faults-requires : tie.Need-no-faults-requires Inv-loop μ-loop
-no-faults-requires c κs = search needs
+μ-loop faults₀ nodes m limits i₀ faults i = m - i
 
 loop-holds : tie.Need-loop-holds Inv-loop μ-loop
-loop-holds c = (omega arith, search needs, c .no-faults .ensures ∙ all-none _)
+loop-holds c = (omega arith, nodes-start _ _ _)
 
-slice-aggregate-node : tie.Need-slice-aggregate-node Inv-loop μ-loop
-slice-aggregate-node c = search needs
+state-of-requires : tie.Need-state-of-requires Inv-loop μ-loop
+state-of-requires c κs = search needs
+
+returns : tie.Need-returns Inv-loop μ-loop
+returns c =
+    let at-loop-test = c .before .before in
+    let start = at-loop-test .before .before .before .before in
+    let a = start .args in
+    nodes-stop (none (a .faults)) (a .nodes .now) (a .limits .now) (start .pre .0) (at-loop-test .loop-test .taken) (omega arith)
 
 node-requires : tie.Need-node-requires Inv-loop μ-loop
 node-requires c κs = search needs
@@ -43,25 +39,26 @@ loop-less c = search needs
 
 loop-again : tie.Need-loop-again Inv-loop μ-loop
 loop-again c =
-    let at-loop = c .before .before .before in
-    let at-limits = at-loop .before .before in
-    let at-slice = at-limits .before in
-    let start = at-slice .before in
-    let a = start .args in
-    let inv = at-loop .loop .inv in (
+    let at-loop-test = c .before .before .before in
+    let at-loop = at-loop-test .before in
+    let at-shared-slice-known = at-loop .before .before in
+    let start = at-shared-slice-known .before in
+    let a = start .args in (
       omega arith,
-      search needs,
-      node-turn (a .n) (a .clock) (start .pre .0) (c .before .before .loop-test .taken) (start .pre .1) (omega arith) (omega arith)
-          (λ j. omega (arith, at-slice .shared-slice-known .given j)) (at-limits .node-limits .ensures) (inv .2) (c .node .ensures),
+      nodes-turn (none (a .faults)) (a .nodes .now) (a .limits .now) (start .pre .0) (at-loop-test .loop-test .taken) (omega arith)
+          (λ j. omega (arith, at-shared-slice-known .shared-slice-known .given j)) (at-loop .loop .inv .1) (c .node .ensures),
     )
 
 is-clean-requires : tie.Need-is-clean-requires Inv-loop μ-loop
 is-clean-requires c κs = search needs
 
-returns : tie.Need-returns Inv-loop μ-loop
-returns c =
-    let a = c .before .before .before .before .before .before .args in
-    nodes-end (a .n) (a .clock) (a .m) (a .nodes .now) {i = c .before .before .loop .i} (omega arith) (c .before .before .loop .inv .2) (c .is-clean .ensures)
+returns-2 : tie.Need-returns-2 Inv-loop μ-loop
+returns-2 c =
+    let at-loop = c .before .before in
+    let start = at-loop .before .before .before in
+    let a = start .args in
+    nodes-end (none (a .faults)) (a .nodes .now) (a .limits .now) {m = a .m} {i = at-loop .loop .i} (omega arith) (at-loop .loop .inv .1)
+    (c .is-clean .ensures)
 
 pub nodes-fit-spec : {M : Type 1} → statement M
 nodes-fit-spec =
@@ -69,14 +66,12 @@ nodes-fit-spec =
     (tie.spec
     Inv-loop
     μ-loop
-    sub-node-limits
-    node-limits-requires
-    no-faults-requires
     loop-holds
-    slice-aggregate-node
+    state-of-requires
+    returns
     node-requires
     add-i
     loop-less
     loop-again
     is-clean-requires
-    returns)
+    returns-2)

@@ -1,0 +1,108 @@
+//! What the library's times are to be beside others': a row's greatest ratio, by what is timed and at which shape.
+
+use crate::table::Row;
+use harness::params::Params;
+
+#[derive(Clone, Copy)]
+pub enum Beside {
+    /// plain C, which checks the words before each step
+    C,
+    /// plain C that checks the words once, at the start of a run
+    COnce,
+    /// a program that does nothing
+    Nothing,
+    /// the library's own fastest of the same
+    Fastest,
+}
+
+impl Beside {
+    pub fn name(self) -> &'static str {
+        match self {
+            Beside::C => "C",
+            Beside::COnce => "C once",
+            Beside::Nothing => "a program that does nothing",
+            Beside::Fastest => "the fastest",
+        }
+    }
+}
+
+#[derive(Clone, Copy)]
+pub struct Goal {
+    pub beside: Beside,
+    pub at_most: f64,
+}
+
+impl Goal {
+    pub fn ratio(self, row: &Row) -> f64 {
+        let other = match self.beside {
+            Beside::C => Some(row.plain),
+            Beside::COnce => row.trusting,
+            Beside::Nothing => row.nothing,
+            Beside::Fastest => None,
+        };
+        row.library / other.expect("the row has what its goal is beside")
+    }
+
+    /// Held to the ratio as it is printed, with two digits.
+    pub fn met(self, ratio: f64) -> bool {
+        (ratio * 100.0).round() <= (self.at_most * 100.0).round()
+    }
+}
+
+fn least(params: Params) -> bool {
+    params.nodes == 1
+}
+
+fn greatest(params: Params) -> bool {
+    params.nodes == Params::MOST.nodes
+}
+
+fn beside(beside: Beside, at_most: f64) -> Option<Goal> {
+    Some(Goal { beside, at_most })
+}
+
+pub fn check(params: Params, domains: usize) -> Option<Goal> {
+    let at_most = match (greatest(params), domains) {
+        (true, 1) => 0.46,
+        (true, _) => 0.21,
+        _ if least(params) => 1.25,
+        _ => 1.0,
+    };
+    beside(Beside::C, at_most)
+}
+
+/// A step, or the reachable count.
+pub fn call(params: Params) -> Option<Goal> {
+    beside(Beside::C, if least(params) { 1.25 } else { 1.0 })
+}
+
+pub fn mixed_run(params: Params) -> Option<Goal> {
+    beside(Beside::COnce, if greatest(params) { 1.0 } else { 1.2 })
+}
+
+/// A run of a cycle of steps again and again.
+pub fn cycle(name: &str) -> Option<Goal> {
+    match name {
+        "manage" => beside(Beside::COnce, 1.5),
+        "allocate to retire, manage to free" => None,
+        _ => beside(Beside::COnce, 1.2),
+    }
+}
+
+/// The slowest retire of a shape beside the fastest, over how many nodes are due.
+pub fn retires(params: Params) -> Option<Goal> {
+    if greatest(params) {
+        beside(Beside::Fastest, 1.2)
+    } else {
+        None
+    }
+}
+
+/// A book as a process.
+pub fn book(params: Params) -> Option<Goal> {
+    if params.nodes <= 2 {
+        beside(Beside::Nothing, 1.5)
+    } else {
+        beside(Beside::C, 0.3)
+    }
+}
