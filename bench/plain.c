@@ -11,7 +11,7 @@ enum { STATE, OWNER, GUEST, RETIRED_AT, LIMBO, NODE };        /* of a node */
 enum { FREE, ALLOCATED, REACHABLE, REMOVED, RETIRED };        /* states of a node */
 enum { FAST, FALLBACK };
 enum { ALLOCATE = 1, PUBLISH, PROTECT, CHECK, USE, CLEAR, REMOVE, RETIRE, DRAIN, FLUSH, TICK, MANAGE, CLEAR_PRESENCE };
-enum { STORES = 8, MAX_NODES = 256 };
+enum { STORES = 8, MAX_HAZARDS = 8, MAX_NODES = 256 };
 
 static qsense_answer refused(uint32_t number) {
     return (qsense_answer){number, 0};
@@ -191,15 +191,28 @@ static uint32_t retired_by(uint32_t *w, uint32_t p) {
     return count;
 }
 
-/* Visible nodes are marked first, as in Michael's scan, so that each node is looked up and not searched for. */
+/* What process p sees in its own hazards: the node of the last pending store to each, or else the visible one. */
+static void mark_own(uint32_t *w, uint32_t p, bool *seen) {
+    uint32_t nodes[MAX_HAZARDS];
+    for (uint32_t h = 0; h < w[K]; h++) nodes[h] = hazard_at(w, p, h)[VISIBLE];
+    const uint32_t *s = stores_of(w, p);
+    for (uint32_t i = 0; i < process_at(w, p)[PENDING]; i++) nodes[s[STORE * i + STORE_HAZARD]] = s[STORE * i + STORE_NODE];
+    for (uint32_t h = 0; h < w[K]; h++) seen[nodes[h]] = true;
+}
+
+/* Nodes in hazards are marked first, as in Michael's scan, so that each node is looked up and not searched for. */
 static uint32_t scan(uint32_t *w, uint32_t p) {
-    bool visible[MAX_NODES + 1] = {false};
-    for (uint32_t q = 0; q < w[N]; q++)
-        for (uint32_t h = 0; h < w[K]; h++) visible[hazard_at(w, q, h)[VISIBLE]] = true;
+    bool seen[MAX_NODES + 1] = {false};
+    for (uint32_t q = 0; q < w[N]; q++) {
+        if (q == p)
+            mark_own(w, p, seen);
+        else
+            for (uint32_t h = 0; h < w[K]; h++) seen[hazard_at(w, q, h)[VISIBLE]] = true;
+    }
     uint32_t freed = 0;
     for (uint32_t c = 0; c < w[M]; c++) {
         uint32_t *x = node_at(w, c);
-        if (x[STATE] == RETIRED && x[OWNER] == p && w[CLOCK] - x[RETIRED_AT] > w[T] && !visible[c + 1]) {
+        if (x[STATE] == RETIRED && x[OWNER] == p && w[CLOCK] - x[RETIRED_AT] > w[T] && !seen[c + 1]) {
             memset(x, 0, NODE * sizeof *x);
             freed++;
         }

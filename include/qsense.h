@@ -54,6 +54,8 @@ qsense_answer qsense_make(uint32_t *words, size_t len, uint32_t n, uint32_t k, u
  *   11  tick                               the clock moves on
  *   12  manage (process)                   every Q-th call is a quiescent state; value: nodes freed
  *   13  clear presence                     no process has checked in: all presence words 0
+ * A scan frees the Retired nodes of the process that were retired more than T ticks ago and that it sees in no hazard: its own hazards count
+ * as the node of the last pending store to them, or else as the visible one, those of others as the visible one.
  * The value is 0 where none is named. Refused at the first no, in this order, with value 0 and no word changed:
  *    3  the words are a well-formed domain
  *    4  the kind is 1 to 13

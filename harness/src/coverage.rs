@@ -15,6 +15,8 @@ pub struct Coverage {
     freed_by_scan: u64,
     freed_by_epoch: u64,
     kept_while_visible: u64,
+    kept_for_own_store: u64,
+    freed_under_own_mark: u64,
     eighth_stores: u64,
     retired_while_validated: u64,
     clock_at_end: u64,
@@ -23,13 +25,18 @@ pub struct Coverage {
     path: Option<Path>,
     pending: usize,
     validated: bool,
+    /// Retired nodes that are visible in hazards of the step's process
+    own_visible: Vec<u32>,
 }
 
 impl Coverage {
     /// Notes what is about to be changed by a step.
     pub fn before(&mut self, domain: &Domain, step: Step) {
         self.path = Some(domain.path);
-        self.pending = domain.processes.get(step.process as usize).map_or(0, |process| process.buffer.len());
+        let process = domain.processes.get(step.process as usize);
+        self.pending = process.map_or(0, |process| process.buffer.len());
+        let own_visible = process.iter().flat_map(|process| &process.hazards).filter_map(|hazard| hazard.visible);
+        self.own_visible = own_visible.filter(|&id| domain.node(id).is_retired()).collect();
         self.validated = domain.all_hazards().any(|hazard| hazard.validated && hazard.assigned == Some(step.node));
     }
 
@@ -49,8 +56,10 @@ impl Coverage {
             Kind::Retire => {
                 self.freed_by_scan += answer.value as u64;
                 self.retired_while_validated += self.validated as u64;
-                self.kept_while_visible +=
-                    (domain.path == Path::Fallback && keeps_visible(domain, step.process)) as u64;
+                let scanned = domain.path == Path::Fallback;
+                self.kept_while_visible += (scanned && keeps_visible(domain, step.process)) as u64;
+                self.kept_for_own_store += (scanned && keeps_stored(domain, step.process)) as u64;
+                self.freed_under_own_mark += self.own_visible.iter().any(|&id| !domain.node(id).is_retired()) as u64;
             }
             Kind::Manage => self.freed_by_epoch += answer.value as u64,
             Kind::Protect | Kind::Clear => self.eighth_stores += (self.pending + 1 == BUFFER) as u64,
@@ -75,6 +84,8 @@ impl Coverage {
             ("nodes freed by a scan", self.freed_by_scan),
             ("nodes freed by an epoch", self.freed_by_epoch),
             ("scans that kept a visible node", self.kept_while_visible),
+            ("scans that kept a node for an own pending store alone", self.kept_for_own_store),
+            ("scans that freed a node still visible in an own hazard", self.freed_under_own_mark),
             ("eighth stores taken", self.eighth_stores),
             ("retired while validated", self.retired_while_validated),
             ("steps at the last clock", self.clock_at_end),
@@ -93,12 +104,20 @@ fn has_unread(kind: Kind, mut step: Step) -> bool {
     Field::ALL.into_iter().any(|field| !kind.reads(field) && *step.field_mut(field) != 0)
 }
 
-/// Whether a node of the owner is old enough for a scan and still there, because a hazard with it is visible.
-fn keeps_visible(domain: &Domain, scanner: u32) -> bool {
-    let old = |node: &Node| {
-        matches!(*node, Node::Retired { owner, retired_at, .. }
+/// Whether a node is the owner's and old enough for a scan.
+fn is_old(domain: &Domain, scanner: u32, id: u32) -> bool {
+    matches!(*domain.node(id), Node::Retired { owner, retired_at, .. }
         if owner == scanner && domain.clock - retired_at > domain.params.visibility_bound)
-    };
-    let visible = domain.all_hazards().filter_map(|hazard| hazard.visible);
-    visible.into_iter().any(|id| old(domain.node(id)))
+}
+
+/// Whether a node that is old enough is still there, because a hazard with it is visible.
+fn keeps_visible(domain: &Domain, scanner: u32) -> bool {
+    let mut visible = domain.all_hazards().filter_map(|hazard| hazard.visible);
+    visible.any(|id| is_old(domain, scanner, id))
+}
+
+/// The same because of a pending store of the scanning process, and in no visible hazard.
+fn keeps_stored(domain: &Domain, scanner: u32) -> bool {
+    let mut stored = domain.process(scanner).buffer.iter().filter_map(|store| store.node);
+    stored.any(|id| is_old(domain, scanner, id) && domain.all_hazards().all(|hazard| hazard.visible != Some(id)))
 }

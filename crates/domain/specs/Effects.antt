@@ -23,7 +23,7 @@ changed f ws = encode (f (decode ws))
 abbrev pub processChanged : ℕ → (Process → Process) → List ℕ → List ℕ
 processChanged p f ws = encode (setProcess (decode ws) p (f (processIn ws p)))
 
--- node c may be freed by a scan of p over the nodes from a up to b that goes by marks: mark v says that v stands in a visible hazard
+-- node c may be freed by a scan of p over the nodes from a up to b that goes by marks: mark v says that p sees v in a hazard
 abbrev pub unmarked : Domain → ℕ → ℕ → ℕ → List Bool → ℕ → Node → Bool
 unmarked d p a b marks c n = within a b c && (retiredBy p n && (aged d n && not (getD marks (suc c) false)))
 

@@ -149,6 +149,9 @@ pub mod most {
     // The words of a domain of 16 processes, 8 hazards a process and 256 nodes: 9 + 16 × 52 + 5 × 256.
     pub const WORDS: usize = 2121;
 
+    // A process's own view of its hazards: a number for each.
+    pub const VIEW: usize = 8;
+
     // Marks of nodes: one for each number that a hazard may hold, a node + 1 or 0 for none.
     pub const MARKS: usize = 257;
 }

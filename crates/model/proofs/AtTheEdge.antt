@@ -1,4 +1,4 @@
--- The starred cases of the paper hold of the rules, by computation. Assumes nothing.
+-- The starred cases of the paper and those of the later requests hold of the rules, by computation. Assumes nothing.
 use mathlib.Core.Path.{refl}
 use Rattle.lists.specs.Tests.{All}
 use Rattle.model.specs.Machine.{step, fresh}
@@ -11,6 +11,12 @@ unfolding step fresh
 edge =
     refl
     then refl
+    then (refl, refl)
+    then (refl, refl)
+    then (refl, refl)
+    then (refl, refl)
+    then (refl, refl)
+    then (refl, refl)
     then (refl, refl)
     then (refl, refl)
     then (refl, refl)

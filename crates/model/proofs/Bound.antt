@@ -115,7 +115,7 @@ module _ (a : Params) (d : Domain) (q : Reference) (s : Step) (h : History) (f :
       by p t false e =
           omega (arith, count-set (retiredByAfter p t) (d .nodes) (s .node) n freeNode (λ x. absurd (false≢true (sym e ∙ sym (alike p t) ∙ x))), f .logged p t)
 
--- what a scan leaves: the nodes that are not aged, and those in visible hazards
+-- what a scan leaves: the nodes that are not aged, and those in hazards as its process sees them
 scan-left : (a : Params) (d : Domain) (h : History) (p : ℕ) → Inv d → Fits a d h
     → count (retiredBy p) (scan d p .after .nodes) ≤ a .processes * a .hazards + count (retiredSince p (h .ticks - delay a)) (h .retirements)
 scan-left a d h p i f =

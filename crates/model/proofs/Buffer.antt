@@ -13,8 +13,8 @@ use Rattle.lists.proofs.Stores.{set-cases}
 use Rattle.model.specs.Params.{delay}
 use Rattle.model.specs.State.{Pending, Hazard, Process, Node, Domain, Step, Reachable, emptyHazard}
 use Rattle.model.specs.State.{freeNode, noProcess, processOf, withClock, setProcess, inEpochs}
-use Rattle.model.specs.Hazards.{here, pending, assigning, assign, committing, drained, flushed, young}
-use Rattle.model.proofs.Invariant.{hazardIn, latest, Timely, Held, ProcessInv, ProcessWith, ProcessOk}
+use Rattle.model.specs.Hazards.{here, pending, assigning, assign, committing, drained, flushed, latest, young}
+use Rattle.model.proofs.Invariant.{hazardIn, Timely, Held, ProcessInv, ProcessWith, ProcessOk}
 use Rattle.model.proofs.Invariant.{Near, Inv}
 use Rattle.model.proofs.Updates.{set-process}
 

@@ -1,16 +1,16 @@
 -- The invariant: what holds of every domain that is reached, said of values only. Its five clauses are (E), (B), (T), (H) and (G).
 -- Assumes nothing.
 use Prim.Native.Nat.{ℕ, suc, _+_, _<_, _≤_}
-use mathlib.Core.Bool.{Bool, true, cond}
-use mathlib.Core.List.{List, [], _∷_}
+use mathlib.Core.Bool.{Bool, true}
+use mathlib.Core.List.{List}
 use mathlib.Core.Path.{_≡_}
 use mathlib.Core.Logic.{_≢_}
 use lib.ListN.{length, getD}
-use lib.Dec.{eqb}
 use Rattle.lists.specs.Tests.{All}
 use Rattle.model.specs.Params.{delay}
 use Rattle.model.specs.State.{Pending, Hazard, Process, Node, Domain, Reachable, Retired, emptyHazard}
 use Rattle.model.specs.State.{noProcess, freeNode, processOf, hazardOf, inEpochs, nextEpoch}
+use Rattle.model.specs.Hazards.{latest}
 
 -- N processes of K hazards each, and M nodes
 pub record Shaped (d : Domain) : Type 0 where
@@ -23,11 +23,6 @@ epochIn ps p = getD ps p noProcess .epoch
 
 abbrev pub hazardIn : List Hazard → ℕ → Hazard
 hazardIn hs h = getD hs h emptyHazard
-
--- what a hazard shows once the buffer is flushed: the node of the latest store to it, or v where there is none
-abbrev pub latest : List Pending → ℕ → ℕ → ℕ
-latest [] h v = v
-latest (e ∷ b) h v = latest b h (cond (eqb (e .hazard) h) (e .node) v)
 
 -- 1 (E): a local epoch is the global one or the one before
 abbrev pub Near : ℕ → ℕ → Type 0

@@ -3,9 +3,10 @@
 use Prim.Native.Nat.{ℕ, zero, suc, _+_, _*_, _<_, _≤_}
 use mathlib.Core.Bool.{Bool, true, false}
 use mathlib.Core.List.{List, [], _∷_}
-use mathlib.Core.Path.{_≡_, refl, sym, _∙_, ap}
+use mathlib.Core.Path.{_≡_, refl, sym, _∙_, ap, subst}
 use mathlib.Core.Logic.{_≢_}
 use native.Mathlib.Omega.{arith}
+use native.Mathlib.Nat.{zero-add, add-zero}
 use borrow.Author.Tests.{eqb-true, ltb-true}
 use lib.ListN.{length, getD, length-map, length-append, List·getD-map}
 use lib.Dec.{eqb}
@@ -14,28 +15,41 @@ use Rattle.lists.proofs.Bools.{both, by-cond, implied}
 use Rattle.lists.proofs.Facts.{all-map, every-at, every-in, every-append}
 use Rattle.lists.proofs.Pigeonhole.{lacks-at}
 use Rattle.model.specs.Params.{delay}
-use Rattle.model.specs.State.{Pending, Process, Node, Domain, Step, emptyHazard, noProcess, nodeOf}
+use Rattle.model.specs.State.{Pending, Hazard, Process, Node, Domain, Step, emptyHazard, noProcess, nodeOf}
 use Rattle.model.specs.State.{processOf, hazardOf, withEpoch, inEpochs, nextEpoch}
-use Rattle.model.specs.Hazards.{here, unassigned}
-use Rattle.model.specs.Retire.{retiredBy, visibleIn, visibleFrom, visibleTo, aged, due, within, dueIn}
+use Rattle.model.specs.Hazards.{here, latest, unassigned}
+use Rattle.model.specs.Retire.{retiredBy, ownFrom, visibleIn, visibleFrom, visibleTo, aged, due, within, dueIn}
 use Rattle.model.specs.Retire.{freeing, scan, retiring, marked}
 use Rattle.model.specs.Epochs.{expired, caughtUp, quiescent}
 use Rattle.model.proofs.Walk.{by-quiescent}
 use Rattle.model.proofs.Freeing.{retired-by}
-use Rattle.model.proofs.Invariant.{latest, Timely, epochIn, Inv, Claim}
+use Rattle.model.proofs.Invariant.{hazardIn, Timely, epochIn, Inv, Claim}
 use Rattle.model.proofs.Updates.{held-by, set-node, sweep-nodes, set-process}
 use Rattle.model.proofs.Buffer.{near-here}
 
 -- ---- what a scanning process sees: the two laws that a scan and the bound go by
 
 -- N × K places
+pub own-length : (b : List Pending) (h : ℕ) (hs : List Hazard) → length (ownFrom b h hs) ≡ length hs
+own-length b h [] = refl
+own-length b h (y ∷ ys) = ap suc (own-length b (suc h) ys)
+
 visible-length : (own : Bool) (x : Process) → length (visibleIn own x) ≡ length (x .hazards)
-visible-length own x = length-map (x .hazards) _
+visible-length true x = own-length (x .buffer) 0 (x .hazards)
+visible-length false x = length-map (x .hazards) _
 
 -- a hazard that already shows what it will show once flushed is seen
+own-settled : (b : List Pending) (i : ℕ) (hs : List Hazard) (h : ℕ) → latest b (i + h) (hazardIn hs h .visible) ≡ hazardIn hs h .visible
+    → getD (ownFrom b i hs) h 0 ≡ hazardIn hs h .visible
+own-settled b i [] h e = refl
+own-settled b i (y ∷ ys) zero e = rw add-zero at e
+own-settled b i (y ∷ ys) (suc h) e =
+    own-settled b (suc i) ys h (subst (λ (j : ℕ). latest b j (hazardIn ys h .visible) ≡ hazardIn ys h .visible) (omega arith) e)
+
 visible-settled : (own : Bool) (x : Process) (h : ℕ) → latest (x .buffer) h (hazardOf x h .visible) ≡ hazardOf x h .visible
     → getD (visibleIn own x) h 0 ≡ hazardOf x h .visible
-visible-settled own x h e = List·getD-map (λ y. y .visible) (x .hazards) h emptyHazard
+visible-settled true x h e = own-settled (x .buffer) 0 (x .hazards) h (rw zero-add e)
+visible-settled false x h e = List·getD-map (λ y. y .visible) (x .hazards) h emptyHazard
 
 pub visible-count : (p i : ℕ) (ps : List Process) (k : ℕ) → ((q : ℕ) → q < length ps → length (getD ps q noProcess .hazards) ≡ k)
     → length (visibleFrom p i ps) ≡ length ps * k
@@ -72,7 +86,8 @@ claimant (x ∷ xs) zero h v = omega arith
 claimant (x ∷ xs) (suc p) h v = omega (arith, claimant xs p h v)
 
 module _ (d : Domain) (i : Inv d) where
-  -- by H and T the claim's store is committed, so by B the node is visible, and the scan keeps it
+  -- by H and T the claim's store is committed and no other to that hazard is pending, so by B the node is visible, and the scan, whoever's
+  -- it is, keeps it
   pub due-unclaimed : (p a b q h c : ℕ) → Claim d q h c → dueIn d p a b c (nodeOf d c) ≡ true → ⊥
   due-unclaimed p a b q h c k t =
       let n = nodeOf d c in

@@ -73,6 +73,11 @@ manage p = stepOf 12 p 0 0 0
 abbrev pub turnover : ℕ → ℕ → ℕ → List Step
 turnover p c g = allocate p c g ∷ publish p c ∷ remove p c ∷ retire p c ∷ []
 
+-- node 0 comes and goes at process 0, and 2 ticks later a hazard of process p still shows it to all (8 steps)
+abbrev pub shownToAll : ℕ → List Step
+shownToAll p =
+    allocate 0 0 70 ∷ publish 0 0 ∷ protect p 0 0 ∷ flush p ∷ remove 0 0 ∷ retire 0 0 ∷ tick ∷ tick ∷ []
+
 -- ---- parameters and domains: each field in the order of its record. The paper's numbers and none of the rules' names, so that a wrong
 -- name there is found out
 
@@ -107,3 +112,11 @@ retired p g t e = record { state = 4; owner = p; guest = g; retiredAt = t; limbo
 -- parameters, clock, path (0 fast, 1 fallback), epoch, processes, nodes
 abbrev pub domain : Params → ℕ → ℕ → ℕ → List Process → List Node → Domain
 domain a t v e ps ns = record { params = a; clock = t; path = v; epoch = e; processes = ps; nodes = ns }
+
+-- a well-formed domain that no run reaches: at clock 2, on the fallback path, process 0 has stored node 0 into its hazard and assigned node 1
+-- to it, and both were retired at 0
+abbrev pub stray : Domain
+stray =
+    domain (params 1 1 3 1 1 1) 2 1 0
+    (process 0 0 0 (store 0 1 2 ∷ []) (hazard 0 2 0 ∷ []) ∷ [])
+    (retired 0 70 0 0 ∷ retired 0 71 0 0 ∷ free ∷ [])

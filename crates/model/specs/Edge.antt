@@ -1,5 +1,5 @@
--- The starred cases of 'On the edge' in the paper, all of them and in its order: each is data, what is expected of it written by hand.
--- Assumes nothing.
+-- The starred cases of 'On the edge' in the paper, all of them and in its order, and after them those of the later requests: each is data,
+-- what is expected of it written by hand. Assumes nothing.
 use Prim.Native.Nat.{ℕ}
 use mathlib.Core.List.{List, [], _∷_, _++_}
 use mathlib.Core.Path.{_≡_}
@@ -9,8 +9,8 @@ use Rattle.model.specs.State.{Domain, Step}
 use Rattle.model.specs.WellFormed.{WellFormed}
 use Rattle.model.specs.Machine.{step, run, fresh}
 use Rattle.model.specs.Cases.{Answer, gives, refuses, oks, answersBy, allocate, publish, protect, use'}
-use Rattle.model.specs.Cases.{clear, remove, retire, drain, tick, manage, turnover, params, store, hazard}
-use Rattle.model.specs.Cases.{process, free, reachable, retired, domain}
+use Rattle.model.specs.Cases.{clear, remove, retire, drain, tick, manage, turnover, shownToAll, params, store}
+use Rattle.model.specs.Cases.{hazard, process, free, reachable, retired, domain, stray}
 
 pub data Case : Type 0 where
   -- parameters, and the number of words
@@ -103,4 +103,41 @@ cases =
     (domain (params 1 1 1 1 1 1) 0 0 0
     (process 0 0 0 (store 0 1 0 ∷ []) (hazard 0 1 0 ∷ []) ∷ [])
     (reachable 70 ∷ []))
+    -- request 1: an own slot cleared and not yet drained, its card old: freed (with the mail unknown it was kept: `ownUnknown` of Mistakes)
+    ∷ Run (fresh (params 1 1 2 1 1 1)) (shownToAll 0 ++ clear 0 0 ∷ turnover 0 1 60)
+    (oks 12 ++ gives 1 ∷ [])
+    (domain (params 1 1 2 1 1 1) 2 1 0
+    (process 0 0 0 (store 0 0 2 ∷ []) (hazard 1 0 0 ∷ []) ∷ [])
+    (free ∷ retired 0 60 2 0 ∷ []))
+    -- an own slot with two mail entries, the card and then none: the last counts, and the card is freed
+    ∷ Run (fresh (params 1 1 2 1 1 1)) (turnover 0 0 70 ++ tick ∷ tick ∷ protect 0 0 0 ∷ clear 0 0 ∷ turnover 0 1 60)
+    (oks 11 ++ gives 1 ∷ [])
+    (domain (params 1 1 2 1 1 1) 2 1 0
+    (process 0 0 0 (store 0 1 2 ∷ store 0 0 2 ∷ []) (hazard 0 0 0 ∷ []) ∷ [])
+    (free ∷ retired 0 60 2 0 ∷ []))
+    -- none and then the card: kept
+    ∷ Run (fresh (params 1 1 2 1 1 1)) (turnover 0 0 70 ++ tick ∷ tick ∷ clear 0 0 ∷ protect 0 0 0 ∷ turnover 0 1 60)
+    (oks 12)
+    (domain (params 1 1 2 1 1 1) 2 1 0
+    (process 0 0 0 (store 0 0 2 ∷ store 0 1 2 ∷ []) (hazard 0 1 0 ∷ []) ∷ [])
+    (retired 0 70 0 0 ∷ retired 0 60 2 0 ∷ []))
+    -- of two slots with mail in turns each counts as its own last entry: card 0, which slot 1 has at last, is kept, and card 1 is freed
+    ∷ Run (fresh (params 1 2 3 1 1 1))
+    (turnover 0 0 70 ++ turnover 0 1 71 ++ tick ∷ tick ∷ protect 0 0 0 ∷ protect 0 1 1 ∷ clear 0 0 ∷ protect 0 1 0 ∷ turnover 0 2 60)
+    (oks 17 ++ gives 1 ∷ [])
+    (domain (params 1 2 3 1 1 1) 2 1 0
+    (process 0 0 0 (store 0 1 2 ∷ store 1 2 2 ∷ store 0 0 2 ∷ store 1 1 2 ∷ []) (hazard 0 0 0 ∷ hazard 0 1 0 ∷ []) ∷ [])
+    (retired 0 70 0 0 ∷ free ∷ retired 0 60 2 0 ∷ []))
+    -- another worker's slot cleared and not drained: kept
+    ∷ Run (fresh (params 2 1 2 1 1 1)) (shownToAll 1 ++ clear 1 0 ∷ turnover 0 1 60)
+    (oks 13)
+    (domain (params 2 1 2 1 1 1) 2 1 0
+    (process 0 0 0 [] (hazard 0 0 0 ∷ []) ∷ process 0 0 0 (store 0 0 2 ∷ []) (hazard 1 0 0 ∷ []) ∷ [])
+    (retired 0 70 0 0 ∷ retired 0 60 2 0 ∷ []))
+    -- a desk that no run reaches, where the armed card is not the last in the mail: the last in the mail counts
+    ∷ Run stray (turnover 0 2 60)
+    (oks 3 ++ gives 1 ∷ [])
+    (domain (params 1 1 3 1 1 1) 2 1 0
+    (process 0 0 0 (store 0 1 2 ∷ []) (hazard 0 2 0 ∷ []) ∷ [])
+    (retired 0 70 0 0 ∷ free ∷ retired 0 60 2 0 ∷ []))
     ∷ []

@@ -1,6 +1,7 @@
--- Protect, check, use and clear, and the store buffer: a store that is added, and the oldest one committed. Assumes nothing.
+-- Protect, check, use and clear, and the store buffer: a store that is added, the oldest one committed, the last one to a hazard.
+-- Assumes nothing.
 use Prim.Native.Nat.{ℕ, _-_}
-use mathlib.Core.Bool.{Bool}
+use mathlib.Core.Bool.{Bool, cond}
 use mathlib.Core.List.{List, [], _∷_, _++_}
 use lib.Dec.{ltb, eqb}
 use Rattle.lists.specs.Tests.{every}
@@ -59,6 +60,11 @@ drained x (e ∷ b) = committing x e b
 abbrev pub flushed : Process → List Pending → Process
 flushed x [] = x
 flushed x (e ∷ b) = flushed (committing x e b) b
+
+-- what hazard h shows once the buffer is flushed: the node of the last pending store to it, or v where there is none
+abbrev pub latest : List Pending → ℕ → ℕ → ℕ
+latest [] h v = v
+latest (e ∷ b) h v = latest b h (cond (eqb (e .hazard) h) (e .node) v)
 
 -- ---- 11 Tick
 

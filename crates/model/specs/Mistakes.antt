@@ -1,4 +1,4 @@
--- Ten plausible mistakes, each as a machine that is wrong in one place, with a closed schedule on which it answers otherwise than the
+-- Fifteen plausible mistakes, each as a machine that is wrong in one place, with a closed schedule on which it answers otherwise than the
 -- rules. Both lists of answers are written by hand. Assumes nothing.
 use Prim.Native.Nat.{ℕ, suc, _-_}
 use mathlib.Core.Bool.{Bool, true, _&&_, _||_, cond}
@@ -8,16 +8,17 @@ use mathlib.Core.Logic.{_≢_}
 use lib.Dec.{leb, ltb, eqb}
 use Rattle.lists.specs.Tests.{every, count, implies, lacks}
 use Rattle.model.specs.Params.{Params, delay}
-use Rattle.model.specs.State.{Node, Domain, Step, Reachable, Removed, Fast, Fallback, processOf}
-use Rattle.model.specs.State.{withNodes, withPath, withStores, setProcess, nextEpoch}
+use Rattle.model.specs.State.{Pending, Hazard, Process, Node, Domain, Step, Reachable, Removed, Fast, Fallback}
+use Rattle.model.specs.State.{processOf, withNodes, withPath, withStores, setProcess, nextEpoch}
 use Rattle.model.specs.Kinds.{Kind, is, kindOf, Protect, Check, Clear, Retire, Tick, Manage}
 use Rattle.model.specs.Hazards.{here, target}
-use Rattle.model.specs.Retire.{Effect, effect, retiredBy, visibleTo, aged, due, freeing, marked, overfull}
-use Rattle.model.specs.Retire.{fallBack}
+use Rattle.model.specs.Retire.{Effect, effect, retiredBy, ownFrom, visibleTo, aged, due, freeing, marked}
+use Rattle.model.specs.Retire.{overfull, fallBack}
 use Rattle.model.specs.Questions.{ask, firstNo, questions, refusalOf}
 use Rattle.model.specs.Machine.{Outcome, act, answered, step, fresh}
 use Rattle.model.specs.Cases.{Answer, gives, refuses, oks, answersBy, allocate, publish, protect, check}
-use Rattle.model.specs.Cases.{use', remove, retire, flush, tick, manage, turnover, params}
+use Rattle.model.specs.Cases.{use', clear, remove, retire, flush, tick, manage, turnover, shownToAll}
+use Rattle.model.specs.Cases.{params, stray}
 
 -- ---- machines that are right but for one place
 
@@ -44,7 +45,7 @@ abbrev pub retireBy : (Domain → ℕ → Bool) → (Domain → Domain) → (Dom
 retireBy full switch passes =
     doing (λ k d s. cond (is k Retire) (reclaimBy full switch passes (marked d s) (s .process)) (act k d s))
 
--- ---- the ten
+-- ---- ten, in the rules of the first paper
 
 -- a scan frees at age T exactly
 abbrev pub freesAtAgeT : Domain → Step → Outcome
@@ -81,7 +82,7 @@ scansCurrentListOnly = retireBy overfull fallBack (λ d p c n. due d p c n && eq
 abbrev pub keepsPresence : Domain → Step → Outcome
 keepsPresence = retireBy overfull (λ d. withPath d Fallback) due
 
--- a scan looks at no visible hazard
+-- a scan looks at no hazard
 abbrev pub noVisibleTest : Domain → Step → Outcome
 noVisibleTest = retireBy overfull fallBack (λ d p c n. retiredBy p n && aged d n)
 
@@ -103,19 +104,67 @@ checksRemoved = asking 11 Check (λ d s. eqb (target d s .state) Reachable || eq
 abbrev pub overC : Domain → Step → Outcome
 overC = retireBy (λ d p. ltb (d .params .fallbackThreshold) (count (retiredBy p) (d .nodes))) fallBack due
 
+-- ---- five, in what a scan sees. The first half of demand 3 objects to none of them, since by the time that a scan may free a node the
+-- store of a claim on it is committed; the bound objects to the last
+
+-- the hazards of all processes, the first being i, as process p sees them, each process's by see, which is told whether it is p's own
+abbrev pub seenFrom : (Bool → Process → List ℕ) → ℕ → ℕ → List Process → List ℕ
+seenFrom see p i [] = []
+seenFrom see p i (x ∷ xs) = see (eqb i p) x ++ seenFrom see p (suc i) xs
+
+abbrev pub scanSees : (Bool → Process → List ℕ) → Domain → Step → Outcome
+scanSees see =
+    retireBy overfull fallBack
+    (λ d p c n. retiredBy p n && (aged d n && lacks (seenFrom see p 0 (d .processes)) (suc c)))
+
+abbrev pub shown : Process → List ℕ
+shown x = map (λ y. y .visible) (x .hazards)
+
+-- own pending stores are not known: the rule before request 1
+abbrev pub ownUnknown : Domain → Step → Outcome
+ownUnknown = scanSees (λ own x. shown x)
+
+-- the node of the first pending store to hazard h, or v where there is none
+abbrev pub first : List Pending → ℕ → ℕ → ℕ
+first [] h v = v
+first (e ∷ b) h v = cond (eqb (e .hazard) h) (e .node) (first b h v)
+
+abbrev pub firstFrom : List Pending → ℕ → List Hazard → List ℕ
+firstFrom b h [] = []
+firstFrom b h (y ∷ ys) = first b h (y .visible) ∷ firstFrom b (suc h) ys
+
+-- an own hazard counts as its first pending store, not its last
+abbrev pub ownFirst : Domain → Step → Outcome
+ownFirst = scanSees (λ own x. cond own (firstFrom (x .buffer) 0 (x .hazards)) (shown x))
+
+-- an own hazard counts as its assigned node
+abbrev pub ownAssigned : Domain → Step → Outcome
+ownAssigned = scanSees (λ own x. cond own (map (λ y. y .assigned) (x .hazards)) (shown x))
+
+-- the pending stores of other processes are known too
+abbrev pub othersKnown : Domain → Step → Outcome
+othersKnown = scanSees (λ own x. ownFrom (x .buffer) 0 (x .hazards))
+
+-- an own hazard counts as its visible node beside the pending one
+abbrev pub ownVisibleToo : Domain → Step → Outcome
+ownVisibleToo = scanSees (λ own x. cond own (ownFrom (x .buffer) 0 (x .hazards) ++ shown x) (shown x))
+
 -- ---- schedules
 
 pub record Mistake : Type 0 where
   pub machine : Domain → Step → Outcome
-  pub params : Params
-  -- from a fresh domain
+  pub start : Domain
   pub steps : List Step
   -- the answers of the rules, and of the machine
   pub right : List Answer
   pub wrong : List Answer
 
+abbrev pub mistakeFrom : Domain → (Domain → Step → Outcome) → List Step → List Answer → List Answer → Mistake
+mistakeFrom d f ss r w = record { machine = f; start = d; steps = ss; right = r; wrong = w }
+
+-- from a fresh domain
 abbrev pub mistake : (Domain → Step → Outcome) → Params → List Step → List Answer → List Answer → Mistake
-mistake f a ss r w = record { machine = f; params = a; steps = ss; right = r; wrong = w }
+mistake f a ss r w = mistakeFrom (fresh a) f ss r w
 
 -- process 1 has validated node 0, of guest 70, and process 0 retires it (6 steps)
 abbrev pub claimed : List Step
@@ -172,6 +221,21 @@ mistakes =
     -- the second retire makes 2 of 2, and node 0 is 2 old
     ∷ mistake overC (params 1 1 2 1 1 2) (turnover 0 0 70 ++ tick ∷ tick ∷ [] ++ turnover 0 1 60)
     (oks 9 ++ gives 1 ∷ []) (oks 10)
+    -- process 0 has cleared its hazard, which still shows node 0 to others
+    ∷ mistake ownUnknown (params 1 1 2 1 1 1) (shownToAll 0 ++ clear 0 0 ∷ [] ++ turnover 0 1 60)
+    (oks 12 ++ gives 1 ∷ []) (oks 13)
+    -- of node 0 and then none, the first still counts
+    ∷ mistake ownFirst (params 1 1 2 1 1 1) (turnover 0 0 70 ++ tick ∷ tick ∷ protect 0 0 0 ∷ clear 0 0 ∷ [] ++ turnover 0 1 60)
+    (oks 11 ++ gives 1 ∷ []) (oks 12)
+    -- node 0 is stored and node 1 assigned, both aged
+    ∷ mistakeFrom stray ownAssigned (turnover 0 2 60 ++ allocate 0 0 80 ∷ [])
+    (oks 3 ++ gives 1 ∷ refuses 8 ∷ []) (oks 3 ++ gives 1 ∷ gives 0 ∷ [])
+    -- process 1 has cleared its hazard, which still shows node 0 to process 0
+    ∷ mistake othersKnown (params 2 1 2 1 1 1) (shownToAll 1 ++ clear 1 0 ∷ [] ++ turnover 0 1 60)
+    (oks 13) (oks 12 ++ gives 1 ∷ [])
+    -- as for the first of the five
+    ∷ mistake ownVisibleToo (params 1 1 2 1 1 1) (shownToAll 0 ++ clear 0 0 ∷ [] ++ turnover 0 1 60)
+    (oks 12 ++ gives 1 ∷ []) (oks 13)
     ∷ []
 
 -- ---- what is claimed of a mistake
@@ -179,6 +243,6 @@ mistakes =
 -- the rules and the machine answer as foretold, and not alike
 abbrev pub ToldApart : Mistake → Type 0
 ToldApart m =
-    (answersBy step (fresh (m .params)) (m .steps) ≡ m .right)
-    × (answersBy (m .machine) (fresh (m .params)) (m .steps) ≡ m .wrong)
+    (answersBy step (m .start) (m .steps) ≡ m .right)
+    × (answersBy (m .machine) (m .start) (m .steps) ≡ m .wrong)
     × (m .right ≢ m .wrong)

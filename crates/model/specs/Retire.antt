@@ -1,14 +1,14 @@
 -- Retire, the switch to the fallback path, and the scan. Assumes nothing.
 use Prim.Native.Nat.{ℕ, suc, _-_}
-use mathlib.Core.Bool.{Bool, _&&_, cond}
+use mathlib.Core.Bool.{Bool, true, false, _&&_, cond}
 use mathlib.Core.List.{List, [], _∷_, _++_, map}
 use lib.Dec.{leb, ltb, eqb}
 use Rattle.lists.specs.Tests.{count, countFrom, lacks}
 use Rattle.lists.specs.Sweep.{sweepFrom}
 use Rattle.model.specs.Params.{delay}
-use Rattle.model.specs.State.{Process, Node, Domain, Step, Retired, Fallback, nodeOf, freeNode, setNode}
-use Rattle.model.specs.State.{withNodes, withPath, clearPresence}
-use Rattle.model.specs.Hazards.{here}
+use Rattle.model.specs.State.{Pending, Hazard, Process, Node, Domain, Step, Retired, Fallback, nodeOf, freeNode}
+use Rattle.model.specs.State.{setNode, withNodes, withPath, clearPresence}
+use Rattle.model.specs.Hazards.{here, latest}
 
 -- what an accepted step answers, and the domain after it
 pub record Effect : Type 0 where
@@ -24,15 +24,21 @@ retiredBy p n = eqb (n .state) Retired && eqb (n .owner) p
 
 -- ---- the scan
 
--- the hazards of process x as a scan sees them. own: whether it is the scanning process itself
+-- hazards, the first being h, as their own process sees them: the node of the last pending store to each, or else the visible one
+abbrev pub ownFrom : List Pending → ℕ → List Hazard → List ℕ
+ownFrom b h [] = []
+ownFrom b h (y ∷ ys) = latest b h (y .visible) ∷ ownFrom b (suc h) ys
+
+-- the hazards of process x as a scan sees them. own: whether it is the scanning process itself, which knows its pending stores
 abbrev pub visibleIn : Bool → Process → List ℕ
-visibleIn own x = map (λ h. h .visible) (x .hazards)
+visibleIn true x = ownFrom (x .buffer) 0 (x .hazards)
+visibleIn false x = map (λ y. y .visible) (x .hazards)
 
 abbrev pub visibleFrom : ℕ → ℕ → List Process → List ℕ
 visibleFrom p i [] = []
 visibleFrom p i (x ∷ xs) = visibleIn (eqb i p) x ++ visibleFrom p (suc i) xs
 
--- all N × K hazards as process p sees them (the board)
+-- all N × K hazards as process p sees them (the board, with p's own mail)
 abbrev pub visibleTo : Domain → ℕ → List ℕ
 visibleTo d p = visibleFrom p 0 (d .processes)
 
@@ -40,7 +46,7 @@ visibleTo d p = visibleFrom p 0 (d .processes)
 abbrev pub aged : Domain → Node → Bool
 aged d n = ltb (delay (d .params)) (d .clock - n .retiredAt)
 
--- node c may be freed by a scan of p: its own, in whichever limbo list, aged, and in no visible hazard
+-- node c may be freed by a scan of p: its own, in whichever limbo list, aged, and in no hazard as p sees it
 abbrev pub due : Domain → ℕ → ℕ → Node → Bool
 due d p c n = retiredBy p n && (aged d n && lacks (visibleTo d p) (suc c))
 

@@ -21,7 +21,7 @@ use Rattle.layout.proofs.Sound.{head-words, decoded, sound-at}
 use Rattle.domain.specs.Effects.{Does, given}
 use Rattle.domain.proofs.After.{does-after}
 use Rattle.questions.specs.Acted.{Ready, Acted}
-use Rattle.questions.proofs.Accepted.{facts}
+use Rattle.questions.proofs.Accepted.{facts, process-in}
 
 -- ---- the switch
 
@@ -72,6 +72,9 @@ module _ {ws : List ℕ} (s : Sound ws) (p : ℕ) {a : Params} (ea : a ≡ decod
       pub params-switched : a ≡ decode ws₁ .params
       params-switched = ea ∙ sym (ap (λ (d : Domain). d .params) (decoded e₁ switched))
 
+      pub process-switched : p < paramsIn ws .processes → p < paramsIn ws₁ .processes
+      process-switched l = omega (arith, head-words ws .processes, head-words ws₁ .processes, ap (λ y. y .processes) ea, ap (λ y. y .processes) params-switched)
+
       pub switches : a .fallbackThreshold ≤ n → {ws' : List ℕ} {r : ℕ} → Does (partialScan (decode ws₁) p 0 (a .nodes)) ws' r
           → Does (reclaim (decode ws) p) ws' r
       switches h {ws'} {r} k =
@@ -100,6 +103,10 @@ module _ {ws : List ℕ} (p c : ℕ) (r : Ready Retire ws p 0 c 0)
   pub sound-marked : Sound ws₁
   unfolding call
   sound-marked = sound-at marks good₁
+
+  pub process-marked : p < paramsIn ws₁ .processes
+  unfolding call
+  process-marked = omega (arith, head-words ws .processes, head-words ws₁ .processes, process-in Retire ws p 0 c 0 r refl, ap (λ (d : Domain). d .params .processes) (decoded marks good₁))
 
   pub retires : (ws' : List ℕ) (v : ℕ) → Does (reclaim (decode ws₁) p) ws' v → Acted Retire ws p 0 c 0 ws' v
   unfolding call

@@ -1,4 +1,5 @@
 // Retire (kind 8): a node marked Retired, the switch to the fallback path, and the scan.
+mod marks;
 pub mod scan;
 
 use layout::Node;
@@ -9,7 +10,8 @@ use layout::words::states;
 ghost use mathlib.Core.Path.{_≡_};
 ghost use Rattle.model.specs.Kinds.{Retire};
 ghost use Rattle.model.specs.Retire.{fallBack, reclaim};
-ghost use Rattle.layout.specs.Encode.{encode, decode};
+ghost use Prim.Native.Nat.{_<_};
+ghost use Rattle.layout.specs.Encode.{encode, decode, paramsIn};
 ghost use Rattle.layout.specs.Sound.{Sound};
 ghost use Rattle.domain.specs.Effects.{Does};
 ghost use Rattle.questions.specs.Acted.{Ready, Acted};
@@ -25,7 +27,7 @@ fn fall_back(words: &mut [u32])
 
 // After a retire by process p: on the fallback path a scan; on the fast path, where p is overfull, the switch and then a scan.
 fn reclaim(words: &mut [u32], p: ProcessId) -> u32
-    requires { ⌜ Sound (now words) ⌝ }
+    requires { ⌜ Sound (now words) × (p .0 < paramsIn (now words) .processes) ⌝ }
     ensures { λ r. ⌜ Does (reclaim (decode (now (words .entry))) (p .0)) (now (words .exit)) r ⌝ }
 {
     let a = domain::bounds(words);

@@ -1,7 +1,7 @@
 -- A pending store of a stretch, read and committed. Assumes nothing.
 use Prim.Native.Nat.{ℕ, _+_, _*_, _<_, _≤_}
 use mathlib.Core.List.{List, [], _∷_}
-use mathlib.Core.Path.{_≡_, refl, sym, ap, ap₂, subst, _∙_}
+use mathlib.Core.Path.{_≡_, refl, sym, ap, ap₂, _∙_}
 use native.Mathlib.Omega.{arith}
 use lib.ListN.{length, set, drop, length-drop}
 use lib.Seq.{getD-drop}
@@ -35,19 +35,27 @@ module _ (k : ℕ) (r : List ℕ) (s : Stretch k r) (e : ℕ) (l : e < length (p
   low : storeOf (processAt k r) e .hazard < k
   low = all-at (λ p. p .hazard < k) (processAt k r .buffer) e noStore (s .aimed) l
 
-  -- the store names one of the k hazards, whose words are inside
+  pub target-at : (a : ℕ) → a ≡ storePlace shape k e → word r a ≡ storeOf (processAt k r) e .hazard
+  target-at a f = sym (store-at 0 a (omega arith) (omega arith))
+
+  pub stored-at : (a : ℕ) → a ≡ storePlace shape k e + 1 → word r a ≡ storeOf (processAt k r) e .node
+  stored-at a f = sym (store-at 1 a (omega arith) f)
+
+  -- the store names one of the k hazards
+  pub aims : (a : ℕ) → a ≡ storePlace shape k e → word r a < k
+  aims a f = omega (arith, low, target-at a f)
+
+  -- whose words are inside
   pub lands : (h a d : ℕ) → a ≡ storePlace shape k e → h ≡ word r a → d ≡ hazardPlace shape h → d < length r
-  lands h a d f g o =
-      let aims : word r a < k = subst (λ (n : ℕ). n < k) (store-at 0 a (omega arith) (omega arith)) low in
-      omega (arith, s .long)
+  lands h a d f g o = omega (arith, s .long, aims a f)
 
   pub committed : (h a b d : ℕ) → a ≡ storePlace shape k e → h ≡ word r a → b ≡ a + 1 → d ≡ hazardPlace shape h
       → set r d (word r b) ≡ processWords (committing (processAt k r) (storeOf (processAt k r) e) (processAt k r .buffer))
   committed h a b d f g q o =
       let x : Process = processAt k r in
       let p : Pending = storeOf x e in
-      let hazard : h ≡ p .hazard = g ∙ sym (store-at 0 a (omega arith) (omega arith)) in
-      ap₂ (λ (i v : ℕ). set r i v) o (sym (store-at 1 b (omega arith) (omega arith)))
+      let hazard : h ≡ p .hazard = g ∙ target-at a f in
+      ap₂ (λ (i v : ℕ). set r i v) o (stored-at b (omega arith))
       ∙ hazard-written k r s (p .hazard) 0 (hazardPlace shape h) (p .node ∷ []) _ low (omega arith) (omega arith) refl
 
   pub time-at : (a : ℕ) → a ≡ storePlace shape k e + 2 → word r a ≡ storeOf (processAt k r) e .time

@@ -96,10 +96,7 @@ impl Model {
     fn scan(&mut self, scanner: u32) -> u32 {
         let rules = self.rules;
         let Domain { clock, ref params, .. } = self.domain;
-        let seen: Vec<u32> = match rules.have(Mistake::ScanLooksAtAssigned) {
-            true => self.domain.all_hazards().filter_map(|hazard| hazard.assigned).collect(),
-            false => self.domain.all_hazards().filter_map(|hazard| hazard.visible).collect(),
-        };
+        let seen = self.seen_by(scanner);
         let old = params.visibility_bound + 1 - rules.have(Mistake::FreesAtAgeT) as u32;
         let current = self.domain.process(scanner).epoch;
         self.free_where(|id, owner, retired_at, limbo| {
@@ -108,6 +105,32 @@ impl Model {
                 && (!seen.contains(&id) || rules.have(Mistake::NoVisibleTest))
                 && (limbo == current || !rules.have(Mistake::ScansCurrentLimboOnly))
         })
+    }
+
+    /// The nodes that a scan by this process sees in the hazards of all.
+    fn seen_by(&self, scanner: u32) -> Vec<u32> {
+        let mut seen = Vec::new();
+        for (id, process) in self.domain.processes.iter().enumerate() {
+            let own = id as u32 == scanner;
+            for (place, hazard) in process.hazards.iter().enumerate() {
+                seen.extend(self.seen_in(process, place, own));
+                seen.extend(hazard.visible.filter(|_| own && self.rules.have(Mistake::OwnVisibleToo)));
+            }
+        }
+        seen
+    }
+
+    /// What the scanning process sees in a hazard: in its own the node of the last pending store to it, or else, and in those of others,
+    /// the visible one.
+    fn seen_in(&self, process: &Process, place: usize, own: bool) -> Option<u32> {
+        let Hazard { visible, assigned, .. } = process.hazards[place];
+        if self.rules.have(Mistake::ScanLooksAtAssigned) || own && self.rules.have(Mistake::OwnAssigned) {
+            return assigned;
+        }
+        let knows = own && !self.rules.have(Mistake::OwnStoresUnknown) || self.rules.have(Mistake::OthersStoresKnown);
+        let mut stores = process.buffer.iter().filter(|store| store.hazard as usize == place);
+        let store = if self.rules.have(Mistake::OwnFirstStore) { stores.next() } else { stores.next_back() };
+        store.filter(|_| knows).map_or(visible, |store| store.node)
     }
 
     /// Frees the Retired nodes that `due` names by their number, owner, time and limbo list, and counts them.

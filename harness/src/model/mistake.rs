@@ -35,6 +35,12 @@ mistakes! {
     RefusedCheckClearsValidated
     FlushDrainsOnce
     ScanLooksAtAssigned
+    // in what a scan sees of pending stores
+    OwnStoresUnknown
+    OwnFirstStore
+    OwnAssigned
+    OthersStoresKnown
+    OwnVisibleToo
     // in the order of the questions
     AsksOwnerBeforeState
     AsksAgeBeforeClock
@@ -83,7 +89,12 @@ impl Mistake {
 
     /// Those by which a process comes to hold more unfreed nodes than the bound allows.
     pub const UNBOUNDED: &'static [Mistake] =
-        &[Mistake::ScansCurrentLimboOnly, Mistake::SwitchesOverC, Mistake::SwitchesWithoutScan];
+        &[Mistake::ScansCurrentLimboOnly, Mistake::SwitchesOverC, Mistake::SwitchesWithoutScan, Mistake::OwnVisibleToo];
+
+    /// Those that the reference cannot object to: by the time that a scan may free a node, the store of a claim on it is committed, and
+    /// no later one to that hazard is pending. Only the answers tell them from the rules.
+    pub const UNSEEN: &'static [Mistake] =
+        &[Mistake::OwnStoresUnknown, Mistake::OwnFirstStore, Mistake::OwnAssigned, Mistake::OthersStoresKnown];
 }
 
 /// The rules, with at most one mistake in them.

@@ -1,4 +1,5 @@
-//! The cases of 'On the edge', with answers and words written by hand from the paper, on the library and on the model.
+//! The cases of 'On the edge' and those of the later requests, with answers and words written by hand from the papers, on the library
+//! and on the model.
 
 use crate::layout::{word_count, BUFFER, CLOCK, HAZARD, HEAD, LEAD, LEAD_CALLS, LEAD_STORES, NODE, PATH, STORE};
 use crate::library::Calls;
@@ -23,6 +24,7 @@ const EPOCH: usize = PATH + 1;
 const CALLS: usize = HEAD + LEAD_CALLS;
 const PRESENCE: usize = HEAD + 2;
 const PENDING: usize = HEAD + LEAD_STORES;
+const ASSIGNED: usize = HEAD + LEAD + 1;
 const VALIDATED: usize = HEAD + LEAD + 2;
 const FIRST_STORE: usize = HEAD + LEAD + HAZARD;
 // of nodes where N = K = 1: its state
@@ -89,7 +91,7 @@ fn scan_after(ticks: usize) -> Vec<Step> {
 }
 
 fn cases() -> Vec<Case> {
-    [scans(), thresholds(), claims(), vec![stopped()]].into_iter().flatten().collect()
+    [scans(), thresholds(), claims(), vec![stopped()], own_stores(), vec![stray()]].into_iter().flatten().collect()
 }
 
 /// A case from a fresh domain.
@@ -158,5 +160,48 @@ fn stopped() -> Case {
         steps: vec![of(Kind::Tick)],
         answers: vec![(0, 15, 0)],
         after: vec![(CLOCK, u32::MAX), (PENDING, 1)],
+    }
+}
+
+/// Request 1: a scanning process knows its own pending stores. Node 0 is 2 ticks old at the last retire, more than T = 1.
+fn own_stores() -> Vec<Case> {
+    let (one, two) = (Params::of(&[1, 1, 2, 1, 1, 1]), Params::of(&[2, 1, 2, 1, 1, 1]));
+    // node 0 stays visible in hazard 0 of this process, which then clears it and does not drain
+    let cleared = |id| {
+        let by = |kind| Step::new(kind, id, 0, 0, 0);
+        let shown = [of(Kind::Allocate), of(Kind::Publish), by(Kind::Protect), by(Kind::Flush)];
+        let retired = [of(Kind::Remove), of(Kind::Retire), of(Kind::Tick), of(Kind::Tick), by(Kind::Clear)];
+        [shown.to_vec(), retired.to_vec(), turnover(1, 60)].concat()
+    };
+    let stored =
+        |kinds: [Kind; 2]| [turnover(0, 70), vec![of(Kind::Tick); 2], kinds.map(of).to_vec(), turnover(1, 60)].concat();
+    let (freed, kept) = ([(NODES[0], 0), (NODES[1], 4)], [(NODES[0], 4), (NODES[1], 4)]);
+    let of_two = NODES[0] + LEAD + HAZARD + STORE * BUFFER;
+    vec![
+        case("an own hazard cleared and not drained: freed", one, cleared(0), &[(12, 0, 1)], &freed),
+        case(
+            "a hazard of another cleared and not drained: kept",
+            two,
+            cleared(1),
+            &[],
+            &[(of_two, 4), (of_two + NODE, 4)],
+        ),
+        case("of two own stores the last: none", one, stored([Kind::Protect, Kind::Clear]), &[(11, 0, 1)], &freed),
+        case("of two own stores the last: the node", one, stored([Kind::Clear, Kind::Protect]), &[], &kept),
+    ]
+}
+
+/// A domain that no run reaches: node 0 is in the last own pending store, node 1 assigned, both retired 2 ticks ago.
+fn stray() -> Case {
+    let mut words = fresh(Params::of(&[1, 1, 3, 1, 1, 1]));
+    (words[CLOCK], words[PATH], words[PENDING]) = (2, 1, 1);
+    (words[ASSIGNED], words[FIRST_STORE + 1], words[FIRST_STORE + 2]) = (2, 1, 2);
+    (words[NODES[0]], words[NODES[1]]) = (4, 4);
+    Case {
+        name: "of the stored and the assigned node the stored one counts",
+        words,
+        steps: turnover(2, 60),
+        answers: vec![(3, 0, 1)],
+        after: vec![(NODES[0], 4), (NODES[1], 0)],
     }
 }

@@ -1,5 +1,5 @@
 //! The comparison is shown to bite: with each mistake switched on in the model, it must find a difference; and the reference must
-//! object to a machine that makes an unsafe one.
+//! object to a machine that makes an unsafe one, and follow one that differs only in what it answers.
 
 use super::{malformed, schedules};
 use crate::arbitrary;
@@ -22,7 +22,13 @@ pub fn all(report: &mut Report, calls: &Calls, seed: u64) {
         report.test(&format!("told from the model with {mistake:?}"), || found(calls, mistake, seed));
     }
     for &mistake in [Mistake::UNSAFE, Mistake::UNBOUNDED].into_iter().flatten() {
-        report.test(&format!("the reference objects to {mistake:?}"), || objected(mistake, seed));
+        report.test(&format!("the reference objects to {mistake:?}"), || objected(mistake, seed, 20 * ROUNDS));
+    }
+    for &mistake in Mistake::UNSEEN {
+        report.test(&format!("the reference follows {mistake:?}"), || match objected(mistake, seed, ROUNDS) {
+            Ok(objection) => Err(objection),
+            Err(none) => Ok(none),
+        });
     }
 }
 
@@ -60,10 +66,10 @@ fn compare(calls: &Calls, rules: Rules, seed: u64, round: u64, coverage: &mut Co
     }
 }
 
-/// Runs of a model that makes the mistake, beside the reference.
-fn objected(mistake: Mistake, seed: u64) -> Result<String, String> {
+/// Runs of a model that makes the mistake, beside the reference: its objection, or that there is none.
+fn objected(mistake: Mistake, seed: u64, rounds: u64) -> Result<String, String> {
     let mut steps = 0;
-    for round in 0..20 * ROUNDS {
+    for round in 0..rounds {
         let random = &mut Random::new(seed ^ 0x0b1e, round);
         let params = Params::random(random);
         let mut model = Model::fresh(params, Rules::with(mistake));

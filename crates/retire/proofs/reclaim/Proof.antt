@@ -1,5 +1,6 @@
 -- `retire::reclaim` meets its contract: by its branches. Assumes nothing.
-use Rattle.retire.proofs.Branches.{all-nodes, scans, stays, sound-switched, params-switched, switches}
+use Rattle.retire.proofs.Branches.{all-nodes, scans, stays, sound-switched, params-switched, process-switched}
+use Rattle.retire.proofs.Branches.{switches}
 use borrow.Author.Needs.{needs}
 use Rattle.retire.proofs.reclaim.Statement.{statement}
 use Rattle.retire.proofs.reclaim.Tie as tie
@@ -13,7 +14,7 @@ path-requires c κs = search needs
 scan-requires : tie.Need-scan-requires
 scan-requires c κs =
     let all = all-nodes _ (c .before .before .before .before .bounds .ensures) in
-    (c .before .before .before .before .before .before .before .pre, all .0, all .1)
+    (c .before .before .before .before .before .before .before .pre .0, c .before .before .before .before .before .before .before .pre .1, all .0, all .1)
 
 same-length : tie.Need-same-length
 same-length c = search needs
@@ -23,7 +24,7 @@ returns c =
     let start = (c .before .before .before .before .before .before .before .before .before .before) in
     let read = c .before .before .before .before .before .before .before .bounds .ensures in
     let path = c .before .before .before .before .before .path .ensures in
-    scans (start .pre) (start .args .p .0) read path (c .before .before .before .before .if1 .taken) (c .before .before .scan .ensures)
+    scans (start .pre .0) (start .args .p .0) read path (c .before .before .before .before .if1 .taken) (c .before .before .scan .ensures)
 
 retired-count-requires : tie.Need-retired-count-requires
 retired-count-requires c κs = search needs
@@ -37,7 +38,7 @@ returns-2 c =
     let read = c .before .before .before .before .before .before .before .bounds .ensures in
     let path = c .before .before .before .before .before .path .ensures in
     let fast = c .before .before .before .before .if1 .left in
-    stays (start .pre) (start .args .p .0) read path fast (c .before .before .retired-count .ensures) (c .if2 .taken)
+    stays (start .pre .0) (start .args .p .0) read path fast (c .before .before .retired-count .ensures) (c .if2 .taken)
 
 fall-back-requires : tie.Need-fall-back-requires
 fall-back-requires c κs = search needs
@@ -51,8 +52,8 @@ scan-requires-2 c κs =
     let fast = c .before .before .before .before .before .before .before .before .before .if1 .left in
     let count = c .before .before .before .before .before .before .before .retired-count .ensures in
     let switched = c .before .before .before .fall-back .ensures in
-    let all = all-nodes _ (params-switched (start .pre) p read path fast count switched) in
-    (sound-switched (start .pre) p read path fast count switched, all .0, all .1)
+    let all = all-nodes _ (params-switched (start .pre .0) p read path fast count switched) in
+    (sound-switched (start .pre .0) p read path fast count switched, process-switched (start .pre .0) p read path fast count switched (start .pre .1), all .0, all .1)
 
 same-length-3 : tie.Need-same-length-3
 same-length-3 c = search needs
@@ -66,7 +67,7 @@ returns-3 c =
     let fast = c .before .before .before .before .before .before .before .before .before .before .before .before .if1 .left in
     let count = c .before .before .before .before .before .before .before .before .before .before .retired-count .ensures in
     let switched = c .before .before .before .before .before .before .fall-back .ensures in
-    switches (start .pre) p read path fast count switched (c .before .before .before .before .before .before .before .before .if2 .left) (c .before .before .scan2 .ensures)
+    switches (start .pre .0) p read path fast count switched (c .before .before .before .before .before .before .before .before .if2 .left) (c .before .before .scan2 .ensures)
 
 pub reclaim-spec : {M : Type 1} → statement M
 reclaim-spec =

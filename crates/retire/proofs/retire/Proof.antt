@@ -2,7 +2,7 @@
 use mathlib.Core.Path.{refl}
 use Rattle.model.specs.Kinds.{Retire}
 use Rattle.questions.proofs.Accepted.{process-in, node-in}
-use Rattle.retire.proofs.Branches.{sound-marked, retires}
+use Rattle.retire.proofs.Branches.{sound-marked, process-marked, retires}
 use borrow.Author.Needs.{needs}
 use Rattle.retire.proofs.retire.Statement.{statement}
 use Rattle.retire.proofs.retire.Tie as tie
@@ -42,7 +42,8 @@ reclaim-requires c κs =
     let lead = c .before .before .before .before .before .before .before .before .before .lead .ensures in
     let clock = c .before .before .before .before .before .before .before .clock .ensures in
     let node = c .before .before .before .before .before .node .ensures in
-    sound-marked p n (start .pre) _ lead _ clock _ node _ (c .before .before .before .set-node .ensures)
+    let set = c .before .before .before .set-node .ensures in
+    (sound-marked p n (start .pre) _ lead _ clock _ node _ set, process-marked p n (start .pre) _ lead _ clock _ node _ set)
 
 same-length : tie.Need-same-length
 same-length c = search needs

@@ -1,4 +1,4 @@
--- `retire::scan::scan` meets its contract: what is not marked is in no visible hazard. Assumes nothing.
+-- `retire::scan::scan` meets its contract: what is not marked is seen in no hazard. Assumes nothing.
 use Rattle.retire.proofs.Unmarked.{scanned}
 use borrow.Author.Needs.{needs}
 use Rattle.retire.proofs.scan.scan.Statement.{statement}
@@ -16,7 +16,7 @@ same-length c = search needs
 returns : tie.Need-returns
 returns c =
     let a = c .before .before .before .before .before .before .before .before .before .args in
-    let marks = c .before .before .before .before .before .mark-visible .ensures (a .p .0) in
+    let marks = c .before .before .before .before .before .mark-visible .ensures in
     scanned (c .before .before .before .before .before .before .before .before .before .pre .0) (a .p .0) _ marks (a .from) (a .to) (c .before .before .sweep-due .ensures)
 
 pub scan-spec : {M : Type 1} → statement M

@@ -1,11 +1,13 @@
--- `retire::scan::mark_process` meets its contract: the stretch lent holds the process. Assumes nothing.
+-- `retire::marks::mark_process` meets its contract: the stretch lent holds the process. Assumes nothing.
+use mathlib.Core.Bool.{false}
 use mathlib.Core.Path.{ap, _∙_}
+use Rattle.model.specs.Retire.{visibleIn}
 use Rattle.domain.proofs.Lent.{lent-process, lent-stretch}
-use Rattle.retire.specs.Marks.{marking, visibleNodes}
+use Rattle.retire.specs.Marks.{marking}
 use Rattle.retire.proofs.Unmarked.{lent-small}
 use borrow.Author.Needs.{needs}
-use Rattle.retire.proofs.scan.mark_process.Statement.{statement}
-use Rattle.retire.proofs.scan.mark_process.Tie as tie
+use Rattle.retire.proofs.marks.mark_process.Statement.{statement}
+use Rattle.retire.proofs.marks.mark_process.Tie as tie
 
 place-of-requires : tie.Need-place-of-requires
 place-of-requires c κs = search needs
@@ -25,12 +27,12 @@ part-mark-row-end c = search needs
 mark-row-requires : tie.Need-mark-row-requires
 mark-row-requires c κs =
     let h = c .before .before .before .before .pre in
-    (lent-stretch (h .0) (h .1) (c .before .before .place-of .ensures), lent-small (h .0) (h .1) (c .before .before .place-of .ensures))
+    (lent-stretch (h .0) (h .1) (c .before .before .place-of .ensures), lent-small (h .0) false (h .1) (c .before .before .place-of .ensures))
 
 returns : tie.Need-returns
 returns c =
     let h = c .before .before .before .before .before .pre in
-    c .mark-row .ensures ∙ ap (λ x. marking (c .before .before .before .before .before .args .marks .now) (visibleNodes x)) (lent-process (h .0) (h .1) (c .before .before .before .place-of .ensures))
+    c .mark-row .ensures ∙ ap (λ x. marking (c .before .before .before .before .before .args .marks .now) (visibleIn false x)) (lent-process (h .0) (h .1) (c .before .before .before .place-of .ensures))
 
 pub mark-process-spec : {M : Type 1} → statement M
 mark-process-spec =

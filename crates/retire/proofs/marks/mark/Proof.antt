@@ -1,10 +1,10 @@
--- `retire::scan::mark` meets its contract: one mark set. Assumes nothing.
+-- `retire::marks::mark` meets its contract: one mark set. Assumes nothing.
 use mathlib.Core.Bool.{true}
 use mathlib.Core.Path.{ap}
 use lib.ListN.{set}
 use borrow.Author.Needs.{needs}
-use Rattle.retire.proofs.scan.mark.Statement.{statement}
-use Rattle.retire.proofs.scan.mark.Tie as tie
+use Rattle.retire.proofs.marks.mark.Statement.{statement}
+use Rattle.retire.proofs.marks.mark.Tie as tie
 
 wide-requires : tie.Need-wide-requires
 wide-requires c κs = search needs
