@@ -50,6 +50,12 @@ module _ {A : Type 0} (P : A → Type 0) where
   all-sweep z f i [] k h = tt
   all-sweep z f i (x ∷ xs) k h = (by-cond P (f i x) (λ _. k) (λ _. h .0), all-sweep z f (suc i) xs k (h .1))
 
+-- a place with a fact that the default has not is inside
+pub inside : {A : Type 0} (P : A → Type 0) (l : List A) (i : ℕ) (d : A) → (P d → ⊥) → P (getD l i d) → i < length l
+inside P [] i d n h = absurd (n h)
+inside P (x ∷ xs) zero d n h = omega arith
+inside P (x ∷ xs) (suc i) d n h = omega (arith, inside P xs i d n h)
+
 -- from one fact to another
 pub all-map : {A : Type 0} (P Q : A → Type 0) (l : List A) → ((a : A) → P a → Q a) → All P l → All Q l
 all-map P Q [] f h = tt

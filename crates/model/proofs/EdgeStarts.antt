@@ -1,50 +1,38 @@
 -- Every case of the list starts well: from a fresh domain, or from `stopped` or `stray`, which no run reaches. Assumes nothing.
+use Prim.Native.Nat.{ℕ, _≤_}
+use mathlib.Core.List.{List, [], _∷_}
+use mathlib.Core.Path.{_≡_, refl, sym}
 use native.Mathlib.Omega.{arith}
+use lib.ListN.{length}
 use Rattle.lists.specs.Tests.{All}
-use Rattle.model.specs.WellFormed.{WellFormed}
-use Rattle.model.specs.Cases.{stray}
-use Rattle.model.specs.Edge.{StartsWell, stopped, cases}
+use Rattle.model.specs.Params.{Params, InRange, lastClock}
+use Rattle.model.specs.State.{Pending, Hazard, Node, Fallback}
+use Rattle.model.specs.WellFormed.{WellFormed, NodeFits, HazardFits, PendingFits}
+use Rattle.model.specs.Cases.{process, domain}
+use Rattle.model.specs.Edge.{StartsWell, cases}
 use Rattle.model.proofs.Each.{_then_}
 use Rattle.model.proofs.WellFormed.{well-formed-fresh}
 
--- clock at its end, a store of age 3 pending
-stopped-well : WellFormed stopped
-stopped-well =
+-- a process with a hazard and a store pending to it
+lone-well : (a : Params) (t v : ℕ) (e : Pending) (h : Hazard) (ns : List Node) → InRange a → (a .processes ≡ 1) × (a .hazards ≡ 1)
+    → (t ≤ lastClock) × (v ≤ Fallback) → length ns ≡ a .nodes → PendingFits a t e → HazardFits a h → All (NodeFits a t) ns
+    → WellFormed (domain a t v 0 (process 0 0 0 (e ∷ []) (h ∷ []) ∷ []) ns)
+lone-well a t v e h ns r one word many fe fh fn =
     record {
-      params = omega arith;
-      clock = omega arith;
-      path = omega arith;
+      params = r;
+      clock = word .0;
+      path = word .1;
       epoch = omega arith;
-      processCount = omega arith;
-      nodeCount = omega arith;
+      processCount = sym (one .0);
+      nodeCount = many;
       processes = (
         record {
-          words = omega arith;
-          stores = record { room = omega arith; width = omega arith; buffer = (omega arith, tt); hazards = (omega arith, tt) };
+          words = omega (arith, r);
+          stores = record { room = omega arith; width = sym (one .1); buffer = (fe, tt); hazards = (fh, tt) };
         },
         tt,
       );
-      nodes = (omega arith, tt);
-    }
-
--- a store pending that is not what is assigned, two nodes Retired
-stray-well : WellFormed stray
-stray-well =
-    record {
-      params = omega arith;
-      clock = omega arith;
-      path = omega arith;
-      epoch = omega arith;
-      processCount = omega arith;
-      nodeCount = omega arith;
-      processes = (
-        record {
-          words = omega arith;
-          stores = record { room = omega arith; width = omega arith; buffer = (omega arith, tt); hazards = (omega arith, tt) };
-        },
-        tt,
-      );
-      nodes = (omega arith, (omega arith, (omega arith, tt)));
+      nodes = fn;
     }
 
 -- a line a case, in the list's order
@@ -61,12 +49,12 @@ starts-well =
     then well-formed-fresh _ (omega arith)
     then well-formed-fresh _ (omega arith)
     then well-formed-fresh _ (omega arith)
-    then stopped-well
+    then lone-well _ _ _ _ _ _ (omega arith) (refl, refl) (omega arith) refl (omega arith) (omega arith) (omega arith, tt)
     then well-formed-fresh _ (omega arith)
     then well-formed-fresh _ (omega arith)
     then well-formed-fresh _ (omega arith)
     then well-formed-fresh _ (omega arith)
     then well-formed-fresh _ (omega arith)
     then well-formed-fresh _ (omega arith)
-    then stray-well
+    then lone-well _ _ _ _ _ _ (omega arith) (refl, refl) (omega arith) refl (omega arith) (omega arith) (omega arith, (omega arith, (omega arith, tt)))
     then tt

@@ -3,7 +3,7 @@
 use Prim.Native.Nat.{ℕ, zero, suc, _+_, _*_, _<_, _≤_}
 use mathlib.Core.Bool.{Bool, true, false}
 use mathlib.Core.List.{List, [], _∷_}
-use mathlib.Core.Path.{_≡_, refl, sym, _∙_, ap, subst}
+use mathlib.Core.Path.{_≡_, refl, sym, _∙_, ap}
 use mathlib.Core.Logic.{_≢_}
 use native.Mathlib.Omega.{arith}
 use native.Mathlib.Nat.{zero-add, add-zero}
@@ -12,7 +12,7 @@ use lib.ListN.{length, getD, length-map, length-append, List·getD-map}
 use lib.Dec.{eqb}
 use Rattle.lists.specs.Tests.{All, lacks}
 use Rattle.lists.proofs.Bools.{both, by-cond, implied}
-use Rattle.lists.proofs.Facts.{all-map, every-at, every-in, every-append}
+use Rattle.lists.proofs.Facts.{all-map, every-at, every-in, every-append, inside}
 use Rattle.lists.proofs.Pigeonhole.{lacks-at}
 use Rattle.model.specs.Params.{delay}
 use Rattle.model.specs.State.{Pending, Hazard, Process, Node, Domain, Step, emptyHazard, noProcess, nodeOf}
@@ -38,18 +38,19 @@ visible-length : (own : Bool) (x : Process) → length (visibleIn own x) ≡ len
 visible-length true x = own-length (x .buffer) 0 (x .hazards)
 visible-length false x = length-map (x .hazards) _
 
--- a hazard that already shows what it will show once flushed is seen
-own-settled : (b : List Pending) (i : ℕ) (hs : List Hazard) (h : ℕ) → latest b (i + h) (hazardIn hs h .visible) ≡ hazardIn hs h .visible
-    → getD (ownFrom b i hs) h 0 ≡ hazardIn hs h .visible
-own-settled b i [] h e = refl
-own-settled b i (y ∷ ys) zero e = rw add-zero at e
-own-settled b i (y ∷ ys) (suc h) e =
-    own-settled b (suc i) ys h (subst (λ (j : ℕ). latest b j (hazardIn ys h .visible) ≡ hazardIn ys h .visible) (omega arith) e)
+-- its own process sees the node of the last store to hazard h
+pub own-at : (b : List Pending) (i : ℕ) (hs : List Hazard) (h : ℕ) → h < length hs
+    → getD (ownFrom b i hs) h 0 ≡ latest b (i + h) (hazardIn hs h .visible)
+own-at b i [] h l = absurd (omega arith)
+own-at b i (y ∷ ys) zero l = rw add-zero refl
+own-at b i (y ∷ ys) (suc h) l =
+    own-at b (suc i) ys h (omega arith) ∙ ap (λ (j : ℕ). latest b j (hazardIn ys h .visible)) (omega arith)
 
-visible-settled : (own : Bool) (x : Process) (h : ℕ) → latest (x .buffer) h (hazardOf x h .visible) ≡ hazardOf x h .visible
-    → getD (visibleIn own x) h 0 ≡ hazardOf x h .visible
-visible-settled true x h e = own-settled (x .buffer) 0 (x .hazards) h (rw zero-add e)
-visible-settled false x h e = List·getD-map (λ y. y .visible) (x .hazards) h emptyHazard
+-- a hazard that already shows what it will show once flushed is seen
+visible-settled : (own : Bool) (x : Process) (h : ℕ) → h < length (x .hazards)
+    → latest (x .buffer) h (hazardOf x h .visible) ≡ hazardOf x h .visible → getD (visibleIn own x) h 0 ≡ hazardOf x h .visible
+visible-settled true x h l e = rw zero-add at (own-at (x .buffer) 0 (x .hazards) h l) ∙ e
+visible-settled false x h l e = List·getD-map (λ y. y .visible) (x .hazards) h emptyHazard
 
 pub visible-count : (p i : ℕ) (ps : List Process) (k : ℕ) → ((q : ℕ) → q < length ps → length (getD ps q noProcess .hazards) ≡ k)
     → length (visibleFrom p i ps) ≡ length ps * k
@@ -79,12 +80,6 @@ settled clock wait at (w ∷ b) h v f k o =
 past-delay : (d : Domain) (n : Node) → aged d n ≡ true → n .retiredAt + delay (d .params) < d .clock
 past-delay d n h = omega (arith, ltb-true)
 
--- only a process that is there has claims
-claimant : (ps : List Process) (p h : ℕ) → hazardOf (getD ps p noProcess) h .validated ≡ 1 → p < length ps
-claimant [] p h v = absurd (omega arith)
-claimant (x ∷ xs) zero h v = omega arith
-claimant (x ∷ xs) (suc p) h v = omega (arith, claimant xs p h v)
-
 module _ (d : Domain) (i : Inv d) where
   -- by H and T the claim's store is committed and no other to that hazard is pending, so by B the node is visible, and the scan, whoever's
   -- it is, keeps it
@@ -97,8 +92,9 @@ module _ (d : Domain) (i : Inv d) where
       let l = held-by d i q h c k .limbo (retired-by p n (u .0) .0) in
       let still = settled (d .clock) (delay (d .params)) (n .retiredAt) (x .buffer) h (hazardOf x h .visible) (i .processes q .timely) (l .before) (past-delay d n (v .0)) in
       let there : hazardOf x h .visible ≡ suc c = sym still ∙ i .processes q .arrives h ∙ k .assigned in
+      let hazard = inside (λ y. y .validated ≡ 1) (x .hazards) h emptyHazard (λ e. omega arith) (k .validated) in
       let gone = lacked-by p 0 (d .processes) q (suc c) (v .1) in
-      lacks-at (visibleIn (gone .0) x) h (suc c) (gone .1) (λ e. omega arith) (visible-settled (gone .0) x h still ∙ there)
+      lacks-at (visibleIn (gone .0) x) h (suc c) (gone .1) (λ e. omega arith) (visible-settled (gone .0) x h hazard still ∙ there)
 
   pub scan-ok : (p : ℕ) → Inv (scan d p .after)
   scan-ok p = sweep-nodes d i (dueIn d p 0 (d .params .nodes)) (due-unclaimed p 0 (d .params .nodes))
@@ -128,7 +124,7 @@ module _ (d : Domain) (i : Inv d) where
           timely = o .timely;
           aimed = o .aimed;
           counts = o .counts;
-          held = λ h n v a. let e = at p (claimant (d .processes) p h v) (o .counts h n v a) in let k = o .held h n v a in record {
+          held = λ h n v a. let e = at p (there p h v) (o .counts h n v a) in let k = o .held h n v a in record {
             published = k .published;
             limbo = λ r. let l = k .limbo r in record {
               before = l .before;
@@ -139,6 +135,10 @@ module _ (d : Domain) (i : Inv d) where
         };
       }
     where
+      -- only a process that is there has claims
+      there : (p h : ℕ) → hazardOf (processOf d p) h .validated ≡ 1 → p < length (d .processes)
+      there p h = inside (λ x. hazardOf x h .validated ≡ 1) (d .processes) p noProcess (λ e. omega arith)
+
       at : (p : ℕ) → p < length (d .processes) → inEpochs (processOf d p) ≡ true → processOf d p .epoch ≡ d .epoch
       at p k c = eqb-true _ _ (implied _ _ (every-in _ (d .processes) p noProcess u k) c)
 

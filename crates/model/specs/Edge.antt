@@ -103,7 +103,7 @@ cases =
     (domain (params 1 1 1 1 1 1) 0 0 0
     (process 0 0 0 (store 0 1 0 ∷ []) (hazard 0 1 0 ∷ []) ∷ [])
     (reachable 70 ∷ []))
-    -- request 1: an own slot cleared and not yet drained, its card old: freed (with the mail unknown it was kept: `ownUnknown` of Mistakes)
+    -- request 1: an own slot cleared and not yet drained, its card old: freed (paper 01 alone keeps it: `ownUnknown` of Mistakes)
     ∷ Run (fresh (params 1 1 2 1 1 1)) (shownToAll 0 ++ clear 0 0 ∷ turnover 0 1 60)
     (oks 12 ++ gives 1 ∷ [])
     (domain (params 1 1 2 1 1 1) 2 1 0

@@ -120,7 +120,7 @@ scanSees see =
 abbrev pub shown : Process → List ℕ
 shown x = map (λ y. y .visible) (x .hazards)
 
--- own pending stores are not known: the rule before request 1
+-- own pending stores are not known, as in paper 01 alone
 abbrev pub ownUnknown : Domain → Step → Outcome
 ownUnknown = scanSees (λ own x. shown x)
 

@@ -15,7 +15,7 @@ use Rattle.lists.proofs.Agree.{sweep-agree, count-agree}
 use Rattle.model.specs.State.{Pending, Hazard, Process, Node, freeNode, processOf, withNodes}
 use Rattle.model.specs.WellFormed.{HazardFits, PendingFits, StoresFit}
 use Rattle.model.specs.Hazards.{latest}
-use Rattle.model.specs.Retire.{Effect, effect, ownFrom, visibleTo, dueIn, freeing, partialScan}
+use Rattle.model.specs.Retire.{Effect, effect, ownFrom, visibleIn, visibleTo, dueIn, freeing, partialScan}
 use Rattle.model.proofs.WellFormed.{process-fits}
 use Rattle.layout.specs.Encode.{encode, decode, processAt, paramsIn}
 use Rattle.layout.specs.Sound.{Sound}
@@ -72,6 +72,12 @@ module _ {ws : List ℕ} (s : Sound ws) where
   pub lent-small : (own : Bool) {p : ℕ} {r : Place} → p < paramsIn ws .processes → Placed ws p r
       → Markable own (processAt (r .k) (take (r .to - r .from) (drop (r .from) ws)))
   lent-small own {p} l e = subst (λ (x : Process). Markable own x) (sym (lent-process s l e)) (visible-small own p l)
+
+  -- what marks the stretch that is lent marks the process
+  pub lent-marked : (own : Bool) {p : ℕ} {r : Place} → p < paramsIn ws .processes → Placed ws p r → (s₀ : List Bool) {s₁ : List Bool}
+      → s₁ ≡ marking s₀ (visibleIn own (processAt (r .k) (take (r .to - r .from) (drop (r .from) ws))))
+      → s₁ ≡ marking s₀ (visibleIn own (processOf (decode ws) p))
+  lent-marked own l e s₀ h = h ∙ ap (λ x. marking s₀ (visibleIn own x)) (lent-process s l e)
 
   -- there is room for what a process sees
   pub lent-few : {p : ℕ} {r : Place} → Placed ws p r → r .k ≤ mostHazards

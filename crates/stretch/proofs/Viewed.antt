@@ -1,20 +1,20 @@
 -- What the hazards of a stretch show, read one by one, and the pending stores put over it: what their own process sees. Assumes nothing.
-use Prim.Native.Nat.{ℕ, zero, suc, _+_, _<_, _≤_}
+use Prim.Native.Nat.{ℕ, _+_, _<_, _≤_}
 use mathlib.Core.Bool.{Bool, true, false, cond}
 use mathlib.Core.List.{List, [], _∷_, map}
 use mathlib.Core.Path.{_≡_, refl, sym, ap, _∙_}
 use native.Mathlib.Omega.{arith}
-use native.Mathlib.Nat.{zero-add, add-zero}
+use native.Mathlib.Nat.{zero-add}
 use native.Mathlib.Numerals.{add-one}
 use borrow.Author.Tests.{eqb-true, eqb-false}
 use lib.ListN.{length, getD, set, drop, length-map, length-set, drop-of-length-le, List·getD-map}
 use lib.Seq.{drop-cons, ext-getD, getD-set-same, getD-set-other}
 use lib.Dec.{eqb}
 use Rattle.lists.proofs.Stores.{set-cases}
-use Rattle.model.specs.State.{Pending, Hazard, Process, emptyHazard, hazardOf}
+use Rattle.model.specs.State.{Pending, Process, emptyHazard, hazardOf}
 use Rattle.model.specs.Hazards.{latest}
-use Rattle.model.specs.Retire.{ownFrom, visibleIn}
-use Rattle.model.proofs.Unclaimed.{own-length}
+use Rattle.model.specs.Retire.{visibleIn}
+use Rattle.model.proofs.Unclaimed.{own-length, own-at}
 use Rattle.layout.specs.Shape.{word, hazardPlace}
 use Rattle.layout.specs.Encode.{shape, processAt}
 use Rattle.stretch.specs.Stretch.{Stretch}
@@ -56,13 +56,6 @@ overlaid-at (w ∷ b) vs h l =
     by : (t : Bool) → eqb (w .hazard) h ≡ t → word (set vs (w .hazard) (w .node)) h ≡ cond t (w .node) (word vs h)
     by true e = rw (eqb-true (w .hazard) h e) (getD-set-same vs h (w .node) 0 l)
     by false e = getD-set-other vs (w .hazard) h (w .node) 0 (λ q. eqb-false (w .hazard) h e (sym q))
-
-own-at : (b : List Pending) (i : ℕ) (hs : List Hazard) (h : ℕ) → h < length hs
-    → word (ownFrom b i hs) h ≡ latest b (i + h) (getD hs h emptyHazard .visible)
-own-at b i [] h l = absurd (omega arith)
-own-at b i (y ∷ ys) zero l = rw add-zero refl
-own-at b i (y ∷ ys) (suc h) l =
-    own-at b (suc i) ys h (omega arith) ∙ ap (λ (j : ℕ). latest b j (getD ys h emptyHazard .visible)) (omega arith)
 
 -- what the hazards show, with every pending store put over it
 pub overlaid-own : (x : Process) → overlaid (x .buffer) (visibleIn false x) ≡ visibleIn true x

@@ -21,7 +21,7 @@ use Rattle.layout.proofs.Checked.{head-facts}
 use Rattle.nodes.specs.Part.{Part}
 use Rattle.wellformed.specs.ProcessLimits.{Ready}
 
--- ---- the head, word by word: where the first tests say yes, the next one's no is the whole's
+-- ---- the head, word by word: a no of one is the whole's
 
 module _ (h : Head) where
   abbrev pub In₁ : Bool → Type 0
@@ -44,27 +44,27 @@ module _ (h : Head) where
 
   pub no₁ : In₁ false → false ≡ headFits h
   unfolding headFits
-  no₁ e₁ = rw e₁
+  no₁ e = simp (e, and-false)
 
-  pub no₂ : In₁ true → In₂ false → false ≡ headFits h
+  pub no₂ : In₂ false → false ≡ headFits h
   unfolding headFits
-  no₂ e₁ e₂ = rw (e₁, e₂)
+  no₂ e = simp (e, and-false)
 
-  pub no₃ : In₁ true → In₂ true → In₃ false → false ≡ headFits h
+  pub no₃ : In₃ false → false ≡ headFits h
   unfolding headFits
-  no₃ e₁ e₂ e₃ = rw (e₁, e₂, e₃)
+  no₃ e = simp (e, and-false)
 
-  pub no₄ : In₁ true → In₂ true → In₃ true → In₄ false → false ≡ headFits h
+  pub no₄ : In₄ false → false ≡ headFits h
   unfolding headFits
-  no₄ e₁ e₂ e₃ e₄ = rw (e₁, e₂, e₃, e₄)
+  no₄ e = simp (e, and-false)
 
-  pub no₅ : In₁ true → In₂ true → In₃ true → In₄ true → In₅ false → false ≡ headFits h
+  pub no₅ : In₅ false → false ≡ headFits h
   unfolding headFits
-  no₅ e₁ e₂ e₃ e₄ e₅ = rw (e₁, e₂, e₃, e₄, e₅)
+  no₅ e = simp (e, and-false)
 
-  pub no₆ : In₁ true → In₂ true → In₃ true → In₄ true → In₅ true → In₆ false → false ≡ headFits h
+  pub no₆ : In₆ false → false ≡ headFits h
   unfolding headFits
-  no₆ e₁ e₂ e₃ e₄ e₅ e₆ = rw (e₁, e₂, e₃, e₄, e₅, e₆)
+  no₆ e = simp (e, and-false)
 
   pub all-in : In₁ true → In₂ true → In₃ true → In₄ true → In₅ true → In₆ true
       → (leb (h .clock) lastClock && (leb (h .path) Fallback && leb (h .epoch) 2)) ≡ headFits h

@@ -1,6 +1,5 @@
 -- `limits::piece` meets its contract: the four flags are set by the four words. Assumes nothing.
 use Rattle.limits.proofs.Lanes.{piece-none}
-use native.Mathlib.Omega.{arith}
 use borrow.Author.Needs.{needs}
 use Rattle.limits.proofs.piece.Statement.{statement}
 use Rattle.limits.proofs.piece.Tie as tie

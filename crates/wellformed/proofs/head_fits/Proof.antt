@@ -51,9 +51,7 @@ up-to-requires-2 : tie.Need-up-to-requires-2
 up-to-requires-2 c κs = search needs
 
 returns-2 : tie.Need-returns-2
-returns-2 c =
-    let past₁ = c .before .before .before in
-    no₂ _ (yes₁ past₁) (sym (c .before .up-to2 .ensures) ∙ not-true _ (c .if2 .taken))
+returns-2 c = no₂ _ (sym (c .before .up-to2 .ensures) ∙ not-true _ (c .if2 .taken))
 
 shared-slice-read-up-to-3 : tie.Need-shared-slice-read-up-to-3
 shared-slice-read-up-to-3 c = search needs
@@ -62,10 +60,7 @@ up-to-requires-3 : tie.Need-up-to-requires-3
 up-to-requires-3 c κs = search needs
 
 returns-3 : tie.Need-returns-3
-returns-3 c =
-    let past₂ = c .before .before .before in
-    let past₁ = past₂ .before .before .before in
-    no₃ _ (yes₁ past₁) (yes₂ past₂) (sym (c .before .up-to3 .ensures) ∙ not-true _ (c .if3 .taken))
+returns-3 c = no₃ _ (sym (c .before .up-to3 .ensures) ∙ not-true _ (c .if3 .taken))
 
 shared-slice-read-up-to-4 : tie.Need-shared-slice-read-up-to-4
 shared-slice-read-up-to-4 c = search needs
@@ -74,11 +69,7 @@ up-to-requires-4 : tie.Need-up-to-requires-4
 up-to-requires-4 c κs = search needs
 
 returns-4 : tie.Need-returns-4
-returns-4 c =
-    let past₃ = c .before .before .before in
-    let past₂ = past₃ .before .before .before in
-    let past₁ = past₂ .before .before .before in
-    no₄ _ (yes₁ past₁) (yes₂ past₂) (yes₃ past₃) (sym (c .before .up-to4 .ensures) ∙ not-true _ (c .if4 .taken))
+returns-4 c = no₄ _ (sym (c .before .up-to4 .ensures) ∙ not-true _ (c .if4 .taken))
 
 shared-slice-read-up-to-5 : tie.Need-shared-slice-read-up-to-5
 shared-slice-read-up-to-5 c = search needs
@@ -87,12 +78,7 @@ up-to-requires-5 : tie.Need-up-to-requires-5
 up-to-requires-5 c κs = search needs
 
 returns-5 : tie.Need-returns-5
-returns-5 c =
-    let past₄ = c .before .before .before in
-    let past₃ = past₄ .before .before .before in
-    let past₂ = past₃ .before .before .before in
-    let past₁ = past₂ .before .before .before in
-    no₅ _ (yes₁ past₁) (yes₂ past₂) (yes₃ past₃) (yes₄ past₄) (sym (c .before .up-to5 .ensures) ∙ not-true _ (c .if5 .taken))
+returns-5 c = no₅ _ (sym (c .before .up-to5 .ensures) ∙ not-true _ (c .if5 .taken))
 
 shared-slice-read-up-to-6 : tie.Need-shared-slice-read-up-to-6
 shared-slice-read-up-to-6 c = search needs
@@ -101,13 +87,7 @@ up-to-requires-6 : tie.Need-up-to-requires-6
 up-to-requires-6 c κs = search needs
 
 returns-6 : tie.Need-returns-6
-returns-6 c =
-    let past₅ = c .before .before .before in
-    let past₄ = past₅ .before .before .before in
-    let past₃ = past₄ .before .before .before in
-    let past₂ = past₃ .before .before .before in
-    let past₁ = past₂ .before .before .before in
-    no₆ _ (yes₁ past₁) (yes₂ past₂) (yes₃ past₃) (yes₄ past₄) (yes₅ past₅) (sym (c .before .up-to6 .ensures) ∙ not-true _ (c .if6 .taken))
+returns-6 c = no₆ _ (sym (c .before .up-to6 .ensures) ∙ not-true _ (c .if6 .taken))
 
 shared-slice-read-result : tie.Need-shared-slice-read-result
 shared-slice-read-result c = search needs

@@ -1,11 +1,8 @@
 -- `retire::marks::mark_own` meets its contract: the stretch lent holds the process. Assumes nothing.
 use mathlib.Core.Bool.{true}
-use mathlib.Core.Path.{ap, _∙_}
 use native.Mathlib.Omega.{arith}
-use Rattle.model.specs.Retire.{visibleIn}
-use Rattle.domain.proofs.Lent.{lent-process, lent-stretch}
-use Rattle.retire.specs.Marks.{marking}
-use Rattle.retire.proofs.Unmarked.{room, lent-small, lent-few}
+use Rattle.domain.proofs.Lent.{lent-stretch}
+use Rattle.retire.proofs.Unmarked.{room, lent-small, lent-marked, lent-few}
 use borrow.Author.Needs.{needs}
 use Rattle.retire.proofs.marks.mark_own.Statement.{statement}
 use Rattle.retire.proofs.marks.mark_own.Tie as tie
@@ -43,9 +40,9 @@ mark-seen-requires c κs =
 
 returns : tie.Need-returns
 returns c =
-    let h = c .before .before .before .before .before .before .before .pre in
-    c .before .mark-seen .ensures .0
-    ∙ ap (λ x. marking (c .before .before .before .before .before .before .before .args .marks .now) (visibleIn true x)) (lent-process (h .0) (h .1) (c .before .before .before .before .before .place-of .ensures))
+    let start = (c .before .before .before .before .before .before .before) in
+    let at = c .before .before .before .before .before .place-of .ensures in
+    lent-marked (start .pre .0) true (start .pre .1) at (start .args .marks .now) (c .before .mark-seen .ensures .0)
 
 pub mark-own-spec : {M : Type 1} → statement M
 mark-own-spec =

@@ -1,10 +1,7 @@
 -- `retire::marks::mark_process` meets its contract: the stretch lent holds the process. Assumes nothing.
 use mathlib.Core.Bool.{false}
-use mathlib.Core.Path.{ap, _∙_}
-use Rattle.model.specs.Retire.{visibleIn}
-use Rattle.domain.proofs.Lent.{lent-process, lent-stretch}
-use Rattle.retire.specs.Marks.{marking}
-use Rattle.retire.proofs.Unmarked.{lent-small}
+use Rattle.domain.proofs.Lent.{lent-stretch}
+use Rattle.retire.proofs.Unmarked.{lent-small, lent-marked}
 use borrow.Author.Needs.{needs}
 use Rattle.retire.proofs.marks.mark_process.Statement.{statement}
 use Rattle.retire.proofs.marks.mark_process.Tie as tie
@@ -31,8 +28,9 @@ mark-row-requires c κs =
 
 returns : tie.Need-returns
 returns c =
-    let h = c .before .before .before .before .before .pre in
-    c .mark-row .ensures ∙ ap (λ x. marking (c .before .before .before .before .before .args .marks .now) (visibleIn false x)) (lent-process (h .0) (h .1) (c .before .before .before .place-of .ensures))
+    let start = (c .before .before .before .before .before) in
+    let at = c .before .before .before .place-of .ensures in
+    lent-marked (start .pre .0) false (start .pre .1) at (start .args .marks .now) (c .mark-row .ensures)
 
 pub mark-process-spec : {M : Type 1} → statement M
 mark-process-spec =

@@ -34,12 +34,15 @@ hazard-requires c κs = search needs
 
 mark-requires : tie.Need-mark-requires Inv-loop μ-loop
 mark-requires c κs =
-    let a = c .before .before .before .before .before .before .args in
-    let hs = processAt (a .at .k) (a .row .now) .hazards in
-    let few = hazards-length (a .at .k) (a .row .now) in
+    let at-loop = (c .before .before .before .before) in
+    let start = at-loop .before .before in
+    let h = at-loop .loop .h in
+    let at = start .args .at in
+    let vs = map (λ y. y .visible) (processAt (at .k) (start .args .row .now) .hazards) in
+    let few = hazards-length (at .k) (start .args .row .now) in
     let e = ap (λ y. y .visible) (c .before .hazard .ensures) in
-    let shown = List·getD-map (λ y. y .visible) hs (c .before .before .before .before .loop .h) emptyHazard in
-    omega (arith, e, shown, all-at (λ v. v ≤ mostNodes) (map (λ y. y .visible) hs) (c .before .before .before .before .loop .h) 0 (c .before .before .before .before .before .before .pre .1) (simp length-map (omega (arith, few))))
+    let shown = List·getD-map (λ y. y .visible) (processAt (at .k) (start .args .row .now) .hazards) h emptyHazard in
+    omega (arith, e, shown, all-at (λ v. v ≤ mostNodes) vs h 0 (start .pre .1) (simp length-map (omega (arith, few))))
 
 add-h : tie.Need-add-h Inv-loop μ-loop
 add-h c = search needs

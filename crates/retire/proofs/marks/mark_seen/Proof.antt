@@ -13,13 +13,19 @@ own-requires : tie.Need-own-requires
 own-requires c κs = search needs
 
 mark-all-requires : tie.Need-mark-all-requires
-mark-all-requires c κs = subst (λ (vs : List ℕ). All (λ v. v ≤ mostNodes) vs) (sym (c .before .before .before .before .own .ensures)) (c .before .before .before .before .before .before .before .before .pre .1)
+mark-all-requires c κs =
+    let start = (c .before .before .before .before .before .before .before .before) in
+    let seen = c .before .before .before .before .own .ensures in
+    subst (λ (vs : List ℕ). All (λ v. v ≤ mostNodes) vs) (sym seen) (start .pre .1)
 
 same-length : tie.Need-same-length
 same-length c = search needs
 
 returns : tie.Need-returns
-returns c = (c .mark-all .ensures ∙ ap (marking (c .before .before .before .before .before .before .before .before .before .args .marks .now)) (c .before .before .before .before .before .own .ensures), c .before .before .before .before .before .own .ensures)
+returns c =
+    let start = (c .before .before .before .before .before .before .before .before .before) in
+    let seen = c .before .before .before .before .before .own .ensures in
+    (c .mark-all .ensures ∙ ap (marking (start .args .marks .now)) seen, seen)
 
 pub mark-seen-spec : {M : Type 1} → statement M
 mark-seen-spec = tie.close (tie.spec own-requires mark-all-requires same-length returns)

@@ -59,9 +59,11 @@ mul-nodes-2 c = search needs
 
 slice-write-nodes : tie.Need-slice-write-nodes Inv-loop μ-loop
 slice-write-nodes c =
-    let h = c .before .before .before .before .before .before .before .before .before .before .pre in
+    let start = (c .before .before .before .before .before .before .before .before .before .before) in
+    let h = start .pre .0 in
     let e = c .before .before .before .before .before .loop .e in
-    omega (arith, c .before .wide2 .ensures .0, aims _ _ (h .0 .words) e (omega arith) (c .before .before .before .before .before .before .before .before .before .before .args .at .stores + 3 * e + 0) (omega (arith, h .0 .stores)))
+    let aim = aims _ _ (h .words) e (omega arith) (start .args .at .stores + 3 * e + 0) (omega (arith, h .stores)) in
+    omega (arith, c .before .wide2 .ensures .0, aim)
 
 add-e : tie.Need-add-e Inv-loop μ-loop
 add-e c = search needs
@@ -71,12 +73,14 @@ loop-less c = search needs
 
 loop-again : tie.Need-loop-again Inv-loop μ-loop
 loop-again c =
-    let h = c .before .before .before .before .before .before .before .before .before .before .pre in
+    let start = (c .before .before .before .before .before .before .before .before .before .before) in
+    let h = start .pre .0 in
     let inv = c .before .before .before .before .before .loop .inv in
     let e = c .before .before .before .before .before .loop .e in
-    let from = c .before .before .before .before .before .before .before .before .before .before .args .at .stores + 3 * e in
-    let target = c .before .wide2 .ensures .0 ∙ target-at _ _ (h .0 .words) e (omega arith) (from + 0) (omega (arith, h .0 .stores)) in
-    (omega arith, inv .1, simp length-set (inv .2), overlay-turn (inv .3) (omega arith) _ _ target (stored-at _ _ (h .0 .words) e (omega arith) (from + 1) (omega (arith, h .0 .stores))))
+    let from = start .args .at .stores + 3 * e in
+    let target = c .before .wide2 .ensures .0 ∙ target-at _ _ (h .words) e (omega arith) (from + 0) (omega (arith, h .stores)) in
+    let stored = stored-at _ _ (h .words) e (omega arith) (from + 1) (omega (arith, h .stores)) in
+    (omega arith, inv .1, simp length-set (inv .2), overlay-turn (inv .3) (omega arith) _ _ target stored)
 
 same-length : tie.Need-same-length Inv-loop μ-loop
 same-length c = omega (arith, c .before .loop .inv .2, c .before .before .before .before .before .before .pre .1)

@@ -18,8 +18,10 @@ same-length c = search needs
 
 returns : tie.Need-returns
 returns c =
-    let x = heldIn (c .before .before .before .before .before .before .before .before .before .before .args .at) (c .before .before .before .before .before .before .before .before .before .before .args .row .now) in
-    c .before .before .overlay .ensures ∙ ap (overlaid (x .buffer)) (c .before .before .before .before .before .before .visible .ensures) ∙ overlaid-own x
+    let start = (c .before .before .before .before .before .before .before .before .before .before) in
+    let x = heldIn (start .args .at) (start .args .row .now) in
+    let shown = c .before .before .before .before .before .before .visible .ensures in
+    c .before .before .overlay .ensures ∙ ap (overlaid (x .buffer)) shown ∙ overlaid-own x
 
 pub own-spec : {M : Type 1} → statement M
 own-spec = tie.close (tie.spec visible-requires overlay-requires same-length returns)

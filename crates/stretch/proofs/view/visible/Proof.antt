@@ -2,7 +2,8 @@
 use Prim.Native.Nat.{_+_, _-_, _*_, _≤_}
 use mathlib.Core.Path.{_≡_, refl}
 use lib.ListN.{length, length-set}
-use Rattle.layout.specs.Encode.{processAt}
+use Rattle.layout.specs.Shape.{hazardPlace}
+use Rattle.layout.specs.Encode.{shape, processAt}
 use Rattle.stretch.proofs.Viewed.{Shown, shown-more, shown-all}
 use native.Mathlib.Omega.{arith}
 use borrow.Author.Needs.{needs}
@@ -47,10 +48,14 @@ loop-less c = search needs
 
 loop-again : tie.Need-loop-again Inv-loop μ-loop
 loop-again c =
-    let start = (c .before .before .before .before) in
-    let h = c .before .before .before .loop .h in
-    let inv = c .before .before .before .loop .inv in
-    (omega arith, inv .1, simp length-set (inv .2), shown-more _ _ (start .pre .0 .words) h (c .before .before .before .loop .nodes) (inv .3) (omega arith) (inv .2) (start .args .at .hazards + 3 * h + 0) (omega (arith, start .pre .0 .hazards)))
+    let at-loop = (c .before .before .before) in
+    let at = at-loop .before .args .at in
+    let pre = at-loop .before .pre .0 in
+    let h = at-loop .loop .h in
+    let inv = at-loop .loop .inv in
+    let place : at .hazards + 3 * h + 0 ≡ hazardPlace shape h = omega (arith, pre .hazards) in
+    let more = shown-more _ _ (pre .words) h (at-loop .loop .nodes) (inv .3) (omega arith) (inv .2) (at .hazards + 3 * h + 0) place in
+    (omega arith, inv .1, simp length-set (inv .2), more)
 
 same-length : tie.Need-same-length Inv-loop μ-loop
 same-length c = omega (arith, c .before .loop .inv .2, c .before .before .pre .1)
