@@ -10,7 +10,8 @@ enum { STORE_HAZARD, STORE_NODE, STORE_TIME, STORE };         /* of a pending st
 enum { STATE, OWNER, GUEST, RETIRED_AT, LIMBO, NODE };        /* of a node */
 enum { FREE, ALLOCATED, REACHABLE, REMOVED, RETIRED };        /* states of a node */
 enum { FAST, FALLBACK };
-enum { ALLOCATE = 1, PUBLISH, PROTECT, CHECK, USE, CLEAR, REMOVE, RETIRE, DRAIN, FLUSH, TICK, MANAGE, CLEAR_PRESENCE };
+enum { ALLOCATE = 1, PUBLISH, PROTECT, CHECK, USE, CLEAR, REMOVE, RETIRE, DRAIN, FLUSH, TICK, MANAGE, CLEAR_PRESENCE,
+       REINSERT, PAST_KINDS };                                /* kinds, and the number past the last */
 enum { STORES = 8, MAX_HAZARDS = 8, MAX_NODES = 256 };
 
 static qsense_answer refused(uint32_t number) {
@@ -116,6 +117,16 @@ static qsense_answer remove_node(uint32_t *w, uint32_t p, uint32_t c) {
     if (x[STATE] != REACHABLE) return refused(8);
     x[STATE] = REMOVED;
     x[OWNER] = p;
+    return accepted(0);
+}
+
+static qsense_answer reinsert(uint32_t *w, uint32_t p, uint32_t c) {
+    if (c >= w[M]) return refused(7);
+    uint32_t *x = node_at(w, c);
+    if (x[STATE] != REMOVED) return refused(8);
+    if (x[OWNER] != p) return refused(9);
+    x[STATE] = REACHABLE;
+    x[OWNER] = 0;
     return accepted(0);
 }
 
@@ -294,7 +305,7 @@ static qsense_answer manage(uint32_t *w, uint32_t p) {
 /* The calls */
 
 static qsense_answer step_known(uint32_t *w, uint32_t kind, uint32_t p, uint32_t h, uint32_t c, uint32_t guest) {
-    if (!within(kind, ALLOCATE, CLEAR_PRESENCE)) return refused(4);
+    if (!within(kind, ALLOCATE, PAST_KINDS - 1)) return refused(4);
     if (kind != TICK && kind != CLEAR_PRESENCE && p >= w[N]) return refused(5);
     if (within(kind, PROTECT, CLEAR) && h >= w[K]) return refused(6);
     switch (kind) {
@@ -310,6 +321,7 @@ static qsense_answer step_known(uint32_t *w, uint32_t kind, uint32_t p, uint32_t
     case FLUSH: return flush(w, p);
     case TICK: return tick(w);
     case MANAGE: return manage(w, p);
+    case REINSERT: return reinsert(w, p, c);
     default: clear_presence(w); return accepted(0);
     }
 }

@@ -54,16 +54,17 @@ qsense_answer qsense_make(uint32_t *words, size_t len, uint32_t n, uint32_t k, u
  *   11  tick                               the clock moves on
  *   12  manage (process)                   every Q-th call is a quiescent state; value: nodes freed
  *   13  clear presence                     no process has checked in: all presence words 0
+ *   14  reinsert (process, node)           Removed to Reachable, without an owner
  * A scan frees the Retired nodes of the process that were retired more than T ticks ago and that it sees in no hazard: its own hazards count
  * as the node of the last pending store to them, or else as the visible one, those of others as the visible one.
  * The value is 0 where none is named. Refused at the first no, in this order, with value 0 and no word changed:
  *    3  the words are a well-formed domain
- *    4  the kind is 1 to 13
+ *    4  the kind is 1 to 14
  *    5  the process is below N (all but 11 and 13)
  *    6  the hazard is below K (3 to 6)
- *    7  the node is below M (1, 2, 3, 7, 8)
- *    8  the node is Free (1), Allocated (2), Reachable (7), Removed (8)
- *    9  the process owns it (2, 8)
+ *    7  the node is below M (1, 2, 3, 7, 8, 14)
+ *    8  the node is Free (1), Allocated (2), Reachable (7), Removed (8, 14)
+ *    9  the process owns it (2, 8, 14)
  *   10  the hazard has a node assigned (4)
  *   11  that node is Reachable (4)
  *   12  the hazard is validated (5)

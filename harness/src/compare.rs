@@ -8,7 +8,7 @@ use crate::model::mistake::Rules;
 use crate::model::{reachable_words, step_words, words, Model};
 use crate::params::Params;
 use crate::reference::Reference;
-use crate::step::{Answer, Step};
+use crate::step::{Answer, Kind, Step};
 
 /// A run of the library, of the model and, from a fresh domain, of the reference.
 pub struct Lockstep<'a> {
@@ -16,6 +16,8 @@ pub struct Lockstep<'a> {
     pub model: Model,
     lent: Lent,
     expected: Vec<u32>,
+    /// the Reachable nodes at the start, with accepted publishes and reinserts since, less accepted removes
+    panel: u32,
     reference: Option<Reference>,
 }
 
@@ -29,6 +31,7 @@ impl<'a> Lockstep<'a> {
             model: Model::fresh(params, rules),
             lent,
             expected: Vec::new(),
+            panel: 0,
             reference: Some(Reference::new(params)),
         };
         run.agree("make", answer, Answer::accepted(0))?;
@@ -37,8 +40,9 @@ impl<'a> Lockstep<'a> {
 
     /// From any domain.
     pub fn from(calls: &'a Calls, rules: Rules, domain: Domain) -> Lockstep<'a> {
-        let expected = words::words_of(&domain);
-        Lockstep { calls, model: Model { rules, domain }, lent: Lent::new(&expected), expected, reference: None }
+        let (expected, panel) = (words::words_of(&domain), domain.reachable());
+        let (model, lent) = (Model { rules, domain }, Lent::new(&expected));
+        Lockstep { calls, model, lent, expected, panel, reference: None }
     }
 
     pub fn step(&mut self, step: Step, coverage: &mut Coverage) -> Result<(), String> {
@@ -48,11 +52,23 @@ impl<'a> Lockstep<'a> {
         self.agree("step", answer, expected)?;
         let panel = self.calls.reachable(self.lent.words());
         self.agree("reachable", panel, Answer::accepted(self.model.domain.reachable()))?;
+        self.count(step, answer);
+        if panel.value != self.panel {
+            return Err(format!("reachable: {}, but {} by the accepted steps", panel.value, self.panel));
+        }
         if let Some(reference) = &mut self.reference {
             reference.follow(step, answer, self.lent.words()).map_err(|e| format!("reference: {e}"))?;
         }
         coverage.after(&self.model.domain, step, answer);
         Ok(())
+    }
+
+    fn count(&mut self, step: Step, answer: Answer) {
+        match (answer.refusal, Kind::from_number(step.kind)) {
+            (0, Some(Kind::Publish | Kind::Reinsert)) => self.panel += 1,
+            (0, Some(Kind::Remove)) => self.panel -= 1,
+            _ => {}
+        }
     }
 
     fn agree(&mut self, call: &str, answer: Answer, expected: Answer) -> Result<(), String> {

@@ -19,6 +19,7 @@ pub struct Coverage {
     freed_under_own_mark: u64,
     eighth_stores: u64,
     retired_while_validated: u64,
+    used_after_reinsert: u64,
     clock_at_end: u64,
     unread_fields: u64,
     // of the domain before the step in hand
@@ -27,9 +28,16 @@ pub struct Coverage {
     validated: bool,
     /// Retired nodes that are visible in hazards of the step's process
     own_visible: Vec<u32>,
+    /// hazards of the run in hand, with their process, that were validated when their node was put back, and are as they were
+    lived_on: Vec<(u32, u32)>,
 }
 
 impl Coverage {
+    /// Begins a run.
+    pub fn begin(&mut self) {
+        self.lived_on.clear();
+    }
+
     /// Notes what is about to be changed by a step.
     pub fn before(&mut self, domain: &Domain, step: Step) {
         self.path = Some(domain.path);
@@ -63,7 +71,12 @@ impl Coverage {
             }
             Kind::Manage => self.freed_by_epoch += answer.value as u64,
             Kind::Protect | Kind::Clear => self.eighth_stores += (self.pending + 1 == BUFFER) as u64,
+            Kind::Use => self.used_after_reinsert += self.lived_on.contains(&(step.process, step.hazard)) as u64,
+            Kind::Reinsert => self.lived_on.extend(claims_on(domain, step.node)),
             _ => {}
+        }
+        if matches!(kind, Kind::Protect | Kind::Check | Kind::Clear) {
+            self.lived_on.retain(|&place| place != (step.process, step.hazard));
         }
     }
 
@@ -88,6 +101,7 @@ impl Coverage {
             ("scans that freed a node still visible in an own hazard", self.freed_under_own_mark),
             ("eighth stores taken", self.eighth_stores),
             ("retired while validated", self.retired_while_validated),
+            ("uses of a claim older than a reinsert of its node", self.used_after_reinsert),
             ("steps at the last clock", self.clock_at_end),
             ("accepted with unread fields", self.unread_fields),
         ];
@@ -102,6 +116,16 @@ impl Coverage {
 
 fn has_unread(kind: Kind, mut step: Step) -> bool {
     Field::ALL.into_iter().any(|field| !kind.reads(field) && *step.field_mut(field) != 0)
+}
+
+/// The hazards that have the node validated, with their process.
+fn claims_on(domain: &Domain, node: u32) -> Vec<(u32, u32)> {
+    let mut claims = Vec::new();
+    for (process, of) in (0..).zip(&domain.processes) {
+        let claimed = (0..).zip(&of.hazards).filter(|(_, hazard)| hazard.validated && hazard.assigned == Some(node));
+        claims.extend(claimed.map(|(hazard, _)| (process, hazard)));
+    }
+    claims
 }
 
 /// Whether a node is the owner's and old enough for a scan.

@@ -94,16 +94,20 @@ impl Reference {
                 self.retirements.push(Retirement { process: step.process, clock: self.clock });
             }
             11 => self.clock += 1,
+            14 => {
+                self.asks_owned(step, REMOVED)?;
+                self.turn(step.node, REACHABLE, 0);
+            }
             _ => {}
         }
         Ok(())
     }
 
-    /// Questions 5 to 7, on steps 1 to 8.
+    /// Questions 5 to 7, on steps 1 to 8 and 14.
     fn asks_ranges(&self, step: Step) -> Result<(), String> {
         let reads_hazard = matches!(step.kind, 3..=6);
-        let reads_node = matches!(step.kind, 1..=3 | 7 | 8);
-        let wrong = (matches!(step.kind, 1..=8) && step.process >= self.params.processes)
+        let reads_node = matches!(step.kind, 1..=3 | 7 | 8 | 14);
+        let wrong = (matches!(step.kind, 1..=8 | 14) && step.process >= self.params.processes)
             || (reads_hazard && step.hazard >= self.params.hazards)
             || (reads_node && step.node >= self.params.nodes);
         match wrong {

@@ -153,6 +153,8 @@ kinds! {
     12 Manage [Process] 8;
     /// the paper's roll call
     13 ClearPresence [] 1;
+    /// the paper's repost
+    14 Reinsert [Process Node] 3 needs(Removed) owns();
 }
 
 impl Kind {

@@ -1,57 +1,55 @@
 -- The numbers of the kinds, those that are none's, and a state as the table says it. Assumes nothing.
-use Prim.Native.Nat.{ℕ, _<_, _≤_}
+use Prim.Native.Nat.{ℕ, zero, suc, _<_, _≤_}
 use mathlib.Core.Bool.{Bool, true, false, not, _&&_, _||_}
 use mathlib.Core.Logic.{_≢_}
 use mathlib.Core.Path.{_≡_, refl, sym, ap, _∙_}
 use native.Mathlib.Omega.{arith}
 use borrow.Author.Tests.{eq-eqb, ne-eqb, lt-leb, ltb-true, ltb-false}
+use lib.ListN.{List·getD-eq-default}
 use lib.Dec.{leb, ltb, eqb}
 use Rattle.lists.specs.Table.{tableFrom}
 use Rattle.lists.proofs.Table.{table-at}
-use Rattle.model.specs.Kinds.{Kind, kindOf, is, meets, rank, rowOf, Allocate, Publish, Protect, Check, Use, Clear}
-use Rattle.model.specs.Kinds.{Remove, Retire, Drain, Flush, Tick, Manage, ClearPresence, Unknown}
+use Rattle.model.specs.Kinds.{Kind, kinds, kindCount, kindOf, is, meets, rank, rowOf, Allocate, Publish, Protect}
+use Rattle.model.specs.Kinds.{Check, Use, Clear}
+use Rattle.model.specs.Kinds.{Remove, Retire, Drain, Flush, Tick, Manage, ClearPresence, Reinsert, Unknown}
 use Rattle.kinds.specs.Table.{neededCode, rowCode, guestCode}
 use Rattle.kinds.specs.declared.Row.{Row}
 
--- a number that is none of the kinds'
-pub none-of : (n : ℕ) → n ≢ 1 → n ≢ 2 → n ≢ 3 → n ≢ 4 → n ≢ 5 → n ≢ 6 → n ≢ 7 → n ≢ 8 → n ≢ 9 → n ≢ 10 → n ≢ 11 → n ≢ 12 → n ≢ 13
-    → kindOf n ≡ Unknown
-none-of n h1 h2 h3 h4 h5 h6 h7 h8 h9 h10 h11 h12 h13 =
-    rw (
-      ne-eqb n 1 h1,
-      ne-eqb n 2 h2,
-      ne-eqb n 3 h3,
-      ne-eqb n 4 h4,
-      ne-eqb n 5 h5,
-      ne-eqb n 6 h6,
-      ne-eqb n 7 h7,
-      ne-eqb n 8 h8,
-      ne-eqb n 9 h9,
-      ne-eqb n 10 h10,
-      ne-eqb n 11 h11,
-      ne-eqb n 12 h12,
-      ne-eqb n 13 h13,
-    )
+-- more than i and not the next
+past : {i n : ℕ} → i < n → n ≢ suc i → suc i < n
+past h d = omega arith
 
 -- past the last number there is no kind
-pub unknown : (n : ℕ) → 13 < n → kindOf n ≡ Unknown
-unknown n h =
-    none-of n (λ e. omega arith) (λ e. omega arith) (λ e. omega arith) (λ e. omega arith) (λ e. omega arith) (λ e. omega arith)
-    (λ e. omega arith) (λ e. omega arith) (λ e. omega arith) (λ e. omega arith) (λ e. omega arith) (λ e. omega arith) (λ e. omega arith)
+pub unknown : (n : ℕ) → kindCount < n → kindOf n ≡ Unknown
+unknown zero h = refl
+unknown (suc n) h = let over : kindCount ≤ n = omega arith in List·getD-eq-default kinds Unknown over
 
--- the numbers of the kinds are 1 to 13
-pub known-is : (n : ℕ) → (leb 1 n && leb n 13) ≡ not (is (kindOf n) Unknown)
-known-is n = by (ltb n 14) refl
+-- a number that is none of the kinds'
+pub none-of : (n : ℕ) → n ≢ 1 → n ≢ 2 → n ≢ 3 → n ≢ 4 → n ≢ 5 → n ≢ 6 → n ≢ 7 → n ≢ 8 → n ≢ 9 → n ≢ 10 → n ≢ 11 → n ≢ 12 → n ≢ 13
+    → n ≢ 14 → kindOf n ≡ Unknown
+none-of zero h1 h2 h3 h4 h5 h6 h7 h8 h9 h10 h11 h12 h13 h14 = refl
+none-of (suc n) h1 h2 h3 h4 h5 h6 h7 h8 h9 h10 h11 h12 h13 h14 =
+    unknown (suc n)
+    (past (past (past (past (past (past (past (past (past (past (past (past (past (past (some' n)
+    h1) h2) h3) h4) h5) h6) h7) h8) h9) h10) h11) h12) h13) h14)
   where
-    by : (b : Bool) → ltb n 14 ≡ b → (leb 1 n && leb n 13) ≡ not (is (kindOf n) Unknown)
+    some' : (m : ℕ) → 0 < suc m
+    some' m = omega arith
+
+-- the numbers of the kinds are 1 to the last
+pub known-is : (n : ℕ) → (leb 1 n && leb n kindCount) ≡ not (is (kindOf n) Unknown)
+known-is n = by (ltb n (suc kindCount)) refl
+  where
+    by : (b : Bool) → ltb n (suc kindCount) ≡ b → (leb 1 n && leb n kindCount) ≡ not (is (kindOf n) Unknown)
     by true e =
-        let few : n < 14 = ltb-true n 14 e in
-        let f : ℕ → Bool = λ i. leb 1 i && leb i 13 in
+        let few : n < suc kindCount = ltb-true n (suc kindCount) e in
+        let f : ℕ → Bool = λ i. leb 1 i && leb i kindCount in
         let g : ℕ → Bool = λ i. not (is (kindOf i) Unknown) in
-        sym (table-at f (tableFrom f 0 14) 14 n true refl few) ∙ table-at g (tableFrom f 0 14) 14 n true refl few
+        let t = tableFrom f 0 (suc kindCount) in
+        sym (table-at f t (suc kindCount) n true refl few) ∙ table-at g t (suc kindCount) n true refl few
     by false e =
-        let many : 14 ≤ n = ltb-false n 14 e in
-        rw (unknown n (omega arith), lt-leb n 13 (omega arith)) (no-more (leb 1 n))
+        let many : suc kindCount ≤ n = ltb-false n (suc kindCount) e in
+        rw (unknown n (omega arith), lt-leb n kindCount (omega arith)) (no-more (leb 1 n))
       where
         no-more : (b : Bool) → (b && false) ≡ false
         no-more true = refl
@@ -72,6 +70,7 @@ state-asked Flush m = refl
 state-asked Tick m = refl
 state-asked Manage m = refl
 state-asked ClearPresence m = refl
+state-asked Reinsert m = refl
 state-asked Unknown m = refl
 
 -- a guest that is read, and one that is not

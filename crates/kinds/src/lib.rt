@@ -1,4 +1,4 @@
-// The table of thirteen rows: for each kind of step what its process, hazard, node and guest fields are to it, the state that its node
+// The table of kinds: for each what its process, hazard, node and guest fields are to it, the state that its node
 // needs, and whether the process must own that node.
 use layout::words::states;
 ghost use mathlib.Core.Path.{_≡_};
@@ -6,11 +6,13 @@ ghost use mathlib.Core.Bool.{not};
 ghost use Rattle.model.specs.Kinds.{kindOf, is, Unknown};
 ghost use Rattle.kinds.specs.Table.{rowCode, guestCode};
 
-// How many kinds there are: 1 to 13.
-pub const COUNT: usize = 13;
+// How many kinds there are: 1 to COUNT.
+pub const COUNT: usize = 14;
 
-// The kind that reads a guest, and those that a question beside the table is about.
+// The kind that reads a guest, those that raise or lower the reachable count, and those that a question beside the table is about.
 pub const ALLOCATE: u32 = 1;
+
+pub const PUBLISH: u32 = 2;
 
 pub const PROTECT: u32 = 3;
 
@@ -20,11 +22,15 @@ pub const USE: u32 = 5;
 
 pub const CLEAR: u32 = 6;
 
+pub const REMOVE: u32 = 7;
+
 pub const DRAIN: u32 = 9;
 
 pub const TICK: u32 = 11;
 
 pub const MANAGE: u32 = 12;
+
+pub const REINSERT: u32 = 14;
 
 // What a field of a step is to a kind.
 pub const UNREAD: u8 = 0;
@@ -43,21 +49,22 @@ pub const ANY: u32 = 5;
 // What the fields process, hazard, node and guest are, the state needed, and whether the process must own the node.
 pub struct Row(pub u8, pub u8, pub u8, pub u8, pub u32, pub bool);
 
-// From kind 1 on.
+// A row a kind, in the order of their numbers.
 const ROWS: [Row; COUNT] = [
-    Row(PROCESS, UNREAD, NODE, NUMBER, states::FREE, false),
-    Row(PROCESS, UNREAD, NODE, UNREAD, states::ALLOCATED, true),
-    Row(PROCESS, HAZARD, NODE, UNREAD, ANY, false),
-    Row(PROCESS, HAZARD, UNREAD, UNREAD, ANY, false),
-    Row(PROCESS, HAZARD, UNREAD, UNREAD, ANY, false),
-    Row(PROCESS, HAZARD, UNREAD, UNREAD, ANY, false),
-    Row(PROCESS, UNREAD, NODE, UNREAD, states::REACHABLE, false),
-    Row(PROCESS, UNREAD, NODE, UNREAD, states::REMOVED, true),
-    Row(PROCESS, UNREAD, UNREAD, UNREAD, ANY, false),
-    Row(PROCESS, UNREAD, UNREAD, UNREAD, ANY, false),
-    Row(UNREAD, UNREAD, UNREAD, UNREAD, ANY, false),
-    Row(PROCESS, UNREAD, UNREAD, UNREAD, ANY, false),
-    Row(UNREAD, UNREAD, UNREAD, UNREAD, ANY, false),
+    Row(PROCESS, UNREAD, NODE, NUMBER, states::FREE, false), // allocate
+    Row(PROCESS, UNREAD, NODE, UNREAD, states::ALLOCATED, true), // publish
+    Row(PROCESS, HAZARD, NODE, UNREAD, ANY, false), // protect
+    Row(PROCESS, HAZARD, UNREAD, UNREAD, ANY, false), // check
+    Row(PROCESS, HAZARD, UNREAD, UNREAD, ANY, false), // use
+    Row(PROCESS, HAZARD, UNREAD, UNREAD, ANY, false), // clear
+    Row(PROCESS, UNREAD, NODE, UNREAD, states::REACHABLE, false), // remove
+    Row(PROCESS, UNREAD, NODE, UNREAD, states::REMOVED, true), // retire
+    Row(PROCESS, UNREAD, UNREAD, UNREAD, ANY, false), // drain
+    Row(PROCESS, UNREAD, UNREAD, UNREAD, ANY, false), // flush
+    Row(UNREAD, UNREAD, UNREAD, UNREAD, ANY, false), // tick
+    Row(PROCESS, UNREAD, UNREAD, UNREAD, ANY, false), // manage
+    Row(UNREAD, UNREAD, UNREAD, UNREAD, ANY, false), // clear presence
+    Row(PROCESS, UNREAD, NODE, UNREAD, states::REMOVED, true), // reinsert
 ];
 
 // Question 4: is there such a kind?
@@ -86,6 +93,7 @@ pub fn row_of(kind: u32) -> Row
         11 => ROWS[10],
         12 => ROWS[11],
         13 => ROWS[12],
+        14 => ROWS[13],
         _ => Row(UNREAD, UNREAD, UNREAD, UNREAD, ANY, false),
     }
 }

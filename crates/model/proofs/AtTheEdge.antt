@@ -28,4 +28,10 @@ edge =
     then (refl, refl)
     then (refl, refl)
     then (refl, refl)
+    then (refl, refl)
+    then (refl, refl)
+    then (refl, refl)
+    then (refl, refl)
+    then (refl, refl)
+    then (refl, refl, refl)
     then tt

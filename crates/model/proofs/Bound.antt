@@ -16,7 +16,7 @@ use Rattle.lists.proofs.Pigeonhole.{named-places}
 use Rattle.model.specs.Params.{Params, delay}
 use Rattle.model.specs.State.{Node, Domain, Step, Fast, freeNode, nodeOf, withPath}
 use Rattle.model.specs.Kinds.{Kind, kindOf, numberOf, Allocate, Publish, Protect, Check, Use, Clear}
-use Rattle.model.specs.Kinds.{Remove, Retire, Drain, Flush, Tick, Manage, ClearPresence, Unknown}
+use Rattle.model.specs.Kinds.{Remove, Retire, Drain, Flush, Tick, Manage, ClearPresence, Reinsert, Unknown}
 use Rattle.model.specs.Hazards.{here}
 use Rattle.model.specs.Retire.{retiredBy, aged, visibleTo, due, dueIn, freeing, scan, retiring, marked}
 use Rattle.model.specs.Retire.{overfull, fallBack, reclaim}
@@ -184,6 +184,7 @@ module _ (a : Params) (q : Reference) (h : History) where
       }
   past-as Manage d s i f r = past-quiet Manage d s f refl (λ e. absurd (omega arith)) (quiet-manage d s)
   past-as ClearPresence d s i f r = past-quiet ClearPresence d s f refl (λ e. absurd (omega arith)) (quiet-same d _ refl refl refl)
+  past-as Reinsert d s i f r = past-quiet Reinsert d s f refl (λ e. absurd (omega arith)) (quiet-node d (s .node) _ (λ _. refl))
   past-as Unknown d s i f r = absurd (true≢false (r .known))
 
   pub past-step : (d : Domain) (s : Step) → Inv d → Fits a d h → Past a q s h (step d s)

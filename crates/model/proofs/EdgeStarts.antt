@@ -57,4 +57,10 @@ starts-well =
     then well-formed-fresh _ (omega arith)
     then well-formed-fresh _ (omega arith)
     then lone-well _ _ _ _ _ _ (omega arith) (refl, refl) (omega arith) refl (omega arith) (omega arith) (omega arith, (omega arith, (omega arith, tt)))
+    then well-formed-fresh _ (omega arith)
+    then well-formed-fresh _ (omega arith)
+    then well-formed-fresh _ (omega arith)
+    then well-formed-fresh _ (omega arith)
+    then well-formed-fresh _ (omega arith)
+    then well-formed-fresh _ (omega arith)
     then tt

@@ -16,7 +16,7 @@ use Rattle.lists.proofs.Sweeps.{sweep-is}
 use Rattle.model.specs.Params.{Params}
 use Rattle.model.specs.State.{Node, Domain, Step, Free, Retired, freeNode, nodeOf, setNode}
 use Rattle.model.specs.Kinds.{Kind, kindOf, is, Allocate, Publish, Protect, Check, Use, Clear, Remove}
-use Rattle.model.specs.Kinds.{Retire, Drain, Flush, Tick, Manage, ClearPresence, Unknown}
+use Rattle.model.specs.Kinds.{Retire, Drain, Flush, Tick, Manage, ClearPresence, Reinsert, Unknown}
 use Rattle.model.specs.Retire.{Effect, marked}
 use Rattle.model.specs.Machine.{act, stepAs, step}
 use Rattle.model.specs.Claims.{turnedFree, reportsFreed, FreedAreCounted}
@@ -78,6 +78,7 @@ freed Flush d s a = none-turned d
 freed Tick d s a = none-turned d
 freed Manage d s a = turned-sweep d _ (manage-reclaims d s) refl (λ c. omega arith)
 freed ClearPresence d s a = none-turned d
+freed Reinsert d s a = stored d (s .node) _ (omega arith)
 freed Unknown d s a = none-turned d
 
 -- of an outcome, whichever way retires and manages are told

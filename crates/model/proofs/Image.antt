@@ -13,7 +13,7 @@ use Rattle.model.specs.Params.{Params}
 use Rattle.model.specs.State.{Pending, Hazard, Process, Node, Domain, Step, emptyHazard, noProcess}
 use Rattle.model.specs.State.{freeNode, processOf, hazardOf, setProcess, absent, clearPresence}
 use Rattle.model.specs.Kinds.{Kind, is, Allocate, Publish, Protect, Check, Use, Clear, Remove, Retire}
-use Rattle.model.specs.Kinds.{Drain, Flush, Tick, Manage, ClearPresence, Unknown}
+use Rattle.model.specs.Kinds.{Drain, Flush, Tick, Manage, ClearPresence, Reinsert, Unknown}
 use Rattle.model.specs.Hazards.{here, target, committing, drained, flushed}
 use Rattle.model.specs.Retire.{marked}
 use Rattle.model.specs.Machine.{act, fresh}
@@ -89,6 +89,8 @@ yes-as Flush d s a = refl
 yes-as Tick d s a = refl
 yes-as Manage d s a = refl
 yes-as ClearPresence d s a = refl
+yes-as Reinsert d s a =
+    simp (lt-ltb _ _ (a .process refl), lt-ltb _ _ (a .node refl), cell-at, eq-eqb _ _ (a .state 3 refl), eq-eqb _ _ (a .owner refl))
 yes-as Unknown d s a = refl
 
 -- ---- changes that the image does not show
@@ -128,6 +130,7 @@ follow-as Flush d s = sym (same-row d (s .process) _ (row-flushed (here d s) (he
 follow-as Tick d s = refl
 follow-as Manage d s = refl
 follow-as ClearPresence d s = sym (same-absent d)
+follow-as Reinsert d s = simp (cell-at, map-set)
 follow-as Unknown d s = refl
 
 -- the value of a use

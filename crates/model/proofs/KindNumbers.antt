@@ -1,14 +1,17 @@
 -- Kinds and their numbers: to test the number of a step is to test its kind. Assumes nothing.
-use Prim.Native.Nat.{ℕ}
-use mathlib.Core.Bool.{Bool, true, false, cond, false≢true}
+use Prim.Native.Nat.{ℕ, zero, suc, _+_}
+use mathlib.Core.Bool.{Bool, true, false, _&&_, false≢true}
+use mathlib.Core.List.{List, [], _∷_}
 use mathlib.Core.Path.{_≡_, refl, sym, _∙_, ap}
 use mathlib.Core.Logic.{_≢_}
+use native.Mathlib.Omega.{arith}
 use borrow.Author.Tests.{eqb-true, eqb-false, ne-eqb}
+use lib.ListN.{getD}
 use lib.Dec.{eqb}
-use Rattle.lists.proofs.Bools.{by-cond}
+use Rattle.lists.proofs.Bools.{both}
 use Rattle.model.specs.State.{Step}
-use Rattle.model.specs.Kinds.{Kind, kindOf, numberOf, is, Allocate, Publish, Protect, Check, Use, Clear}
-use Rattle.model.specs.Kinds.{Remove, Retire, Drain, Flush, Tick, Manage, ClearPresence, Unknown}
+use Rattle.model.specs.Kinds.{Kind, kinds, kindOf, numberOf, is, Allocate, Publish, Protect, Check, Use, Clear}
+use Rattle.model.specs.Kinds.{Remove, Retire, Drain, Flush, Tick, Manage, ClearPresence, Reinsert, Unknown}
 
 -- from a kind to its number and back
 pub kind-of-number : (k : Kind) → kindOf (numberOf k) ≡ k
@@ -25,20 +28,27 @@ kind-of-number Flush = refl
 kind-of-number Tick = refl
 kind-of-number Manage = refl
 kind-of-number ClearPresence = refl
+kind-of-number Reinsert = refl
 kind-of-number Unknown = refl
 
 -- from a number to its kind and back, where the kind is known
 abbrev Numbered : ℕ → Kind → Type 0
 Numbered n k = is k Unknown ≡ false → numberOf k ≡ n
 
+-- the kinds of a list have the numbers from i on
+abbrev inOrder : ℕ → List Kind → Bool
+inOrder i [] = true
+inOrder i (k ∷ ks) = eqb (numberOf k) i && inOrder (suc i) ks
+
+number-at : (i : ℕ) (ks : List Kind) → inOrder i ks ≡ true → (n : ℕ) → Numbered (i + n) (getD ks n Unknown)
+number-at i [] h n e = absurd (false≢true (sym e))
+number-at i (k ∷ ks) h zero e = let at : numberOf k ≡ i = eqb-true _ _ (both (eqb (numberOf k) i) _ h .0) in omega arith
+number-at i (k ∷ ks) h (suc n) e =
+    let at = number-at (suc i) ks (both (eqb (numberOf k) i) _ h .1) n e in omega arith
+
 pub number-of-kind : (n : ℕ) → Numbered n (kindOf n)
-number-of-kind n =
-    try Allocate _ (try Publish _ (try Protect _ (try Check _ (try Use _ (try Clear _ (try Remove _
-    (try Retire _ (try Drain _ (try Flush _ (try Tick _ (try Manage _ (try ClearPresence Unknown
-    (λ e. absurd (false≢true (sym e)))))))))))))))
-  where
-    try : (k x : Kind) → Numbered n x → Numbered n (cond (eqb n (numberOf k)) k x)
-    try k x h = by-cond (Numbered n) (eqb n (numberOf k)) (λ e _. sym (eqb-true n (numberOf k) e)) (λ _. h)
+number-of-kind zero e = absurd (false≢true (sym e))
+number-of-kind (suc n) e = let at = number-at 1 kinds refl n e in omega arith
 
 -- the test of a number, for every kind but Unknown
 pub same-kind : (n : ℕ) (j : Kind) → is j Unknown ≡ false → eqb n (numberOf j) ≡ is (kindOf n) j

@@ -8,6 +8,7 @@ pub mod WellFormed
 pub mod EdgeStarts
 pub mod Freeing
 pub mod Panel
+pub mod TakenBack
 pub mod Freed
 pub mod Invariant
 pub mod Updates

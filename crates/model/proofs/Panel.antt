@@ -1,7 +1,8 @@
--- Over any list of steps from a fresh domain, the Reachable nodes are as many as the accepted publishes less the accepted removes.
+-- Over any list of steps from a fresh domain, the Reachable nodes are as many as the accepted publishes and reinserts less the accepted
+-- removes.
 -- Assumes nothing.
 use Prim.Native.Nat.{ℕ, _+_, _<_}
-use mathlib.Core.Bool.{Bool, _&&_, cond}
+use mathlib.Core.Bool.{Bool, _&&_, _||_, cond}
 use mathlib.Core.List.{List, [], _∷_}
 use mathlib.Core.Path.{_≡_, refl, _∙_}
 use native.Mathlib.Omega.{arith}
@@ -14,10 +15,10 @@ use Rattle.lists.proofs.Sweeps.{sweep-length, count-others}
 use Rattle.model.specs.Params.{Params}
 use Rattle.model.specs.State.{Node, Domain, Step, Reachable, freeNode, nodeOf, setNode}
 use Rattle.model.specs.Kinds.{Kind, kindOf, is, Allocate, Publish, Protect, Check, Use, Clear, Remove}
-use Rattle.model.specs.Kinds.{Retire, Drain, Flush, Tick, Manage, ClearPresence, Unknown}
+use Rattle.model.specs.Kinds.{Retire, Drain, Flush, Tick, Manage, ClearPresence, Reinsert, Unknown}
 use Rattle.model.specs.Retire.{Effect, marked}
 use Rattle.model.specs.Machine.{Outcome, act, stepAs, step, run, fresh}
-use Rattle.model.specs.Claims.{reachableCount, acceptedOf, PanelStep, Panel}
+use Rattle.model.specs.Claims.{reachableCount, raises, lowers, acceptedOf, PanelStep, Panel}
 use Rattle.model.proofs.Walk.{Asked, by-step}
 use Rattle.model.proofs.KindNumbers.{same-kind}
 use Rattle.model.proofs.Freeing.{Reclaims, reclaim-reclaims, manage-reclaims}
@@ -28,6 +29,13 @@ reachable n = eqb (n .state) Reachable
 abbrev one : Bool → ℕ
 one b = cond b 1 0
 
+-- the kinds that raise the count, and that lower it
+abbrev up : Kind → Bool
+up k = is k Publish || is k Reinsert
+
+abbrev down : Kind → Bool
+down k = is k Remove
+
 -- as many nodes as the parameters say
 abbrev Full : Domain → Type 0
 Full d = length (d .nodes) ≡ d .params .nodes
@@ -35,12 +43,12 @@ Full d = length (d .nodes) ≡ d .params .nodes
 -- what a kind does to the Reachable nodes: it leaves ns, as many as before
 record Balanced (k : Kind) (d : Domain) (m : ℕ) (ns : List Node) : Type 0 where
   full : length ns ≡ m
-  even : count reachable ns + one (is k Remove) ≡ reachableCount d + one (is k Publish)
+  even : count reachable ns + one (down k) ≡ reachableCount d + one (up k)
 
 -- ---- A store, and a sweep of Retired nodes
 
 stored : (k : Kind) (d : Domain) → Full d → (c : ℕ) (n : Node) → c < d .params .nodes
-    → one (reachable n) + one (is k Remove) ≡ one (reachable (nodeOf d c)) + one (is k Publish)
+    → one (reachable n) + one (down k) ≡ one (reachable (nodeOf d c)) + one (up k)
     → Balanced k d (d .params .nodes) (setNode d c n .nodes)
 stored k d h c n l e =
     let swap = count-swap reachable (d .nodes) c n freeNode (rw h l) in
@@ -73,25 +81,26 @@ balanced Flush d s h a = record { full = h; even = refl }
 balanced Tick d s h a = record { full = h; even = refl }
 balanced Manage d s h a = swept Manage d _ (record { full = h; even = refl }) (manage-reclaims d s)
 balanced ClearPresence d s h a = record { full = h; even = refl }
+balanced Reinsert d s h a = stored Reinsert d h (s .node) _ (a .node refl) (rw (a .state _ refl))
 balanced Unknown d s h a = record { full = h; even = refl }
 
--- the same of an outcome, whichever way removes and publishes are told
+-- the same of an outcome, whichever way it is told what lowers and what raises
 abbrev Tally : Bool → Bool → Domain → Outcome → Type 0
-Tally remove publish d o =
+Tally lower raise d o =
     Full (o .after)
-    × (reachableCount (o .after) + one (eqb (o .refusal) 0 && remove) ≡ reachableCount d + one (eqb (o .refusal) 0 && publish))
+    × (reachableCount (o .after) + one (eqb (o .refusal) 0 && lower) ≡ reachableCount d + one (eqb (o .refusal) 0 && raise))
 
-tally-as : (k : Kind) (remove publish : Bool) → remove ≡ is k Remove → publish ≡ is k Publish
-    → (d : Domain) (s : Step) → Full d → Tally remove publish d (stepAs k d s)
-tally-as k remove publish r p d s h =
-    by-step k d s (Tally remove publish d) (λ n z. (h, rw (ne-eqb n 0 z)))
-    (λ a. let b = balanced k d s h a in (b .full, rw (r, p) (b .even)))
+tally-as : (k : Kind) (lower raise : Bool) → lower ≡ down k → raise ≡ up k
+    → (d : Domain) (s : Step) → Full d → Tally lower raise d (stepAs k d s)
+tally-as k lower raise l r d s h =
+    by-step k d s (Tally lower raise d) (λ n z. (h, rw (ne-eqb n 0 z)))
+    (λ a. let b = balanced k d s h a in (b .full, rw (l, r) (b .even)))
 
-tally : (d : Domain) (s : Step) → Full d → Tally (eqb (s .kind) 7) (eqb (s .kind) 2) d (step d s)
+tally : (d : Domain) (s : Step) → Full d → Tally (lowers (s .kind)) (raises (s .kind)) d (step d s)
 unfolding step
 tally d s =
-    tally-as (kindOf (s .kind)) (eqb (s .kind) 7) (eqb (s .kind) 2)
-    (same-kind (s .kind) Remove refl) (same-kind (s .kind) Publish refl) d s
+    tally-as (kindOf (s .kind)) (lowers (s .kind)) (raises (s .kind)) (same-kind (s .kind) Remove refl)
+    (λ i. same-kind (s .kind) Publish refl i || same-kind (s .kind) Reinsert refl i) d s
 
 pub panel-step : PanelStep
 panel-step d s f = tally d s (f .nodeCount) .1
@@ -99,7 +108,7 @@ panel-step d s f = tally d s (f .nodeCount) .1
 -- ---- A run
 
 tally-run : (ss : List Step) (d : Domain) → Full d
-    → reachableCount (run d ss) + acceptedOf 7 d ss ≡ reachableCount d + acceptedOf 2 d ss
+    → reachableCount (run d ss) + acceptedOf lowers d ss ≡ reachableCount d + acceptedOf raises d ss
 tally-run [] d h = refl
 tally-run (s ∷ ss) d h =
     let o = tally d s h in

@@ -11,7 +11,7 @@ use Rattle.model.specs.Params.{Params}
 use Rattle.model.specs.State.{Process, Domain, Step, Fast, Fallback, emptyHazard, noProcess, freeNode}
 use Rattle.model.specs.State.{processOf, hazardOf, withPath}
 use Rattle.model.specs.Kinds.{Kind, kindOf, Allocate, Publish, Protect, Check, Use, Clear, Remove, Retire}
-use Rattle.model.specs.Kinds.{Drain, Flush, Tick, Manage, ClearPresence, Unknown}
+use Rattle.model.specs.Kinds.{Drain, Flush, Tick, Manage, ClearPresence, Reinsert, Unknown}
 use Rattle.model.specs.Hazards.{here, pointer, validating, unassigned}
 use Rattle.model.specs.Retire.{Effect, marked, fallBack, reclaim}
 use Rattle.model.specs.Epochs.{calledBy, counted, manage}
@@ -77,6 +77,7 @@ keep-as k d s i = by-step k d s (λ o. Inv (o .after)) (λ _ _. i) (kept k)
     kept Tick a = tick-ok d i (a .young' refl)
     kept Manage a = manage-ok d s i (a .process refl) (a .unassigned' refl)
     kept ClearPresence a = clear-presence d i
+    kept Reinsert a = set-node d i (s .node) _ λ p h k o. record { published = omega arith; limbo = λ e. absurd (omega arith) }
     kept Unknown a = i
 
 pub invariant-step : (d : Domain) (s : Step) → Inv d → Inv (step d s .after)

@@ -15,7 +15,7 @@ use Rattle.lists.specs.Sweep.{sweepFrom, placesFrom}
 use Rattle.lists.proofs.Sweeps.{places-length}
 use Rattle.model.specs.State.{Node, Domain, Step, Fast, Fallback, Retired, freeNode, nodeOf, withPath}
 use Rattle.model.specs.Kinds.{Kind, kindOf, numberOf, Allocate, Publish, Protect, Check, Use, Clear}
-use Rattle.model.specs.Kinds.{Remove, Retire, Drain, Flush, Tick, Manage, ClearPresence, Unknown}
+use Rattle.model.specs.Kinds.{Remove, Retire, Drain, Flush, Tick, Manage, ClearPresence, Reinsert, Unknown}
 use Rattle.model.specs.Retire.{Effect, effect, dueIn, freeing, scan, marked, fallBack, reclaim}
 use Rattle.model.specs.Epochs.{expired, quiescent, counted, manage}
 use Rattle.model.specs.Machine.{Outcome, refused, accepted, act, step}
@@ -211,6 +211,7 @@ sim-as Flush d s i a = sim-still Flush d s a refl (λ e. absurd (omega arith)) r
 sim-as Tick d s i a = sim-still Tick d s a refl (λ e. absurd (omega arith)) refl
 sim-as Manage d s i a = sim-led Manage d s a refl (λ e. absurd (omega arith)) (led-manage d s i a)
 sim-as ClearPresence d s i a = sim-still ClearPresence d s a refl (λ e. absurd (omega arith)) refl
+sim-as Reinsert d s i a = sim-still Reinsert d s a refl (λ e. absurd (omega arith)) refl
 sim-as Unknown d s i a = absurd (true≢false (a .known))
 
 pub sim-step : (d : Domain) (s : Step) → Inv d → Sim d s (step d s)

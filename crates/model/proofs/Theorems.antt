@@ -1,9 +1,11 @@
 -- Each claim of specs/Claims.antt, with its proof. Assumes nothing.
-use Rattle.model.specs.Claims.{RefusedUnchanged, UnreadFields, FreshWellFormed, StepWellFormed, PanelStep, Panel}
-use Rattle.model.specs.Claims.{FreedAreCounted, Demand3}
+use Rattle.model.specs.Claims.{RefusedUnchanged, UnreadFields, FreshWellFormed, StepWellFormed, PanelStep}
+use Rattle.model.specs.Claims.{Panel}
+use Rattle.model.specs.Claims.{RemoveTakenBack, FreedAreCounted, Demand3}
 use Rattle.model.proofs.Unread as Unread
 use Rattle.model.proofs.WellFormed as WellFormed
 use Rattle.model.proofs.Panel as Counted
+use Rattle.model.proofs.TakenBack as TakenBack
 use Rattle.model.proofs.Freed as Freed
 use Rattle.model.proofs.Demand3 as Follow
 
@@ -24,6 +26,9 @@ panel-step = Counted.panel-step
 
 pub panel : Panel
 panel = Counted.panel
+
+pub remove-taken-back : RemoveTakenBack
+remove-taken-back = TakenBack.remove-taken-back
 
 pub freed-are-counted : FreedAreCounted
 freed-are-counted = Freed.freed-are-counted

@@ -17,7 +17,7 @@ use Rattle.model.specs.State.{withClock, setNode, setProcess, withStores
 use Rattle.model.specs.State.{absent, clearPresence}
 use Rattle.model.specs.WellFormed.{NodeFits, HazardFits, PendingFits, ProcessFits, WellFormed}
 use Rattle.model.specs.Kinds.{Kind, kindOf, Allocate, Publish, Protect, Check, Use, Clear, Remove, Retire}
-use Rattle.model.specs.Kinds.{Drain, Flush, Tick, Manage, ClearPresence, Unknown}
+use Rattle.model.specs.Kinds.{Drain, Flush, Tick, Manage, ClearPresence, Reinsert, Unknown}
 use Rattle.model.specs.Hazards.{here, pending, assigning, validating, committing, drained, flushed}
 use Rattle.model.specs.Retire.{freeing, marked, retiring}
 use Rattle.model.specs.Epochs.{expired, quiescent, calledBy, counted}
@@ -247,6 +247,9 @@ keep-act Manage d s w a =
     (λ _ _ _. keep-quiescent (keep-path called Fast (omega arith)) p l) (λ _ _ _. called) (λ _ _. keep-quiescent called p l)
     (λ _. keep-counted w s l (calledBy d s) (here d s .presence) (mod-lt (here d s .calls + 1) some') (process-fits w p l .words .presence))
 keep-act ClearPresence d s w a = keep-absent w
+keep-act Reinsert d s w a =
+    let n = node-fits w (s .node) (a .node refl) in
+    keep-node w (s .node) (publishing (nodeOf d (s .node))) (omega (arith, w .params, n .unretired (omega (arith, a .state _ refl))))
 keep-act Unknown d s w a = w
 
 pub well-formed-step : StepWellFormed

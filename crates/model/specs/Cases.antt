@@ -28,6 +28,11 @@ abbrev pub answersBy : (Domain → Step → Outcome) → Domain → List Step �
 answersBy f d [] = []
 answersBy f d (s ∷ ss) = record { refusal = f d s .refusal; value = f d s .value } ∷ answersBy f (f d s .after) ss
 
+-- and the domain that it leaves
+abbrev pub runBy : (Domain → Step → Outcome) → Domain → List Step → Domain
+runBy f d [] = d
+runBy f d (s ∷ ss) = runBy f (f d s .after) ss
+
 -- ---- steps: kind, process, hazard, node, guest; fields that are not read are 0
 
 abbrev pub stepOf : ℕ → ℕ → ℕ → ℕ → ℕ → Step
@@ -69,6 +74,9 @@ tick = stepOf 11 0 0 0 0
 abbrev pub manage : ℕ → Step
 manage p = stepOf 12 p 0 0 0
 
+abbrev pub reinsert : ℕ → ℕ → Step
+reinsert p c = stepOf 14 p 0 c 0
+
 -- node c comes and goes: process p allocates it for guest g, publishes, removes and retires it
 abbrev pub turnover : ℕ → ℕ → ℕ → List Step
 turnover p c g = allocate p c g ∷ publish p c ∷ remove p c ∷ retire p c ∷ []
@@ -77,6 +85,11 @@ turnover p c g = allocate p c g ∷ publish p c ∷ remove p c ∷ retire p c �
 abbrev pub shownToAll : ℕ → List Step
 shownToAll p =
     allocate 0 0 70 ∷ publish 0 0 ∷ protect p 0 0 ∷ flush p ∷ remove 0 0 ∷ retire 0 0 ∷ tick ∷ tick ∷ []
+
+-- node 0 of guest 70 in a validated hazard of process 1, and then removed and put back by process p (6 steps)
+abbrev pub stopAndBack : ℕ → List Step
+stopAndBack p =
+    allocate 0 0 70 ∷ publish 0 0 ∷ protect 1 0 0 ∷ check 1 0 ∷ remove p 0 ∷ reinsert p 0 ∷ []
 
 -- ---- parameters and domains: each field in the order of its record. The paper's numbers and none of the rules' names, so that a wrong
 -- name there is found out
@@ -104,6 +117,10 @@ free = record { state = 0; owner = 0; guest = 0; retiredAt = 0; limbo = 0 }
 -- guest
 abbrev pub reachable : ℕ → Node
 reachable g = record { state = 2; owner = 0; guest = g; retiredAt = 0; limbo = 0 }
+
+-- owner, guest
+abbrev pub removed : ℕ → ℕ → Node
+removed p g = record { state = 3; owner = p; guest = g; retiredAt = 0; limbo = 0 }
 
 -- owner, guest, retiredAt, limbo
 abbrev pub retired : ℕ → ℕ → ℕ → ℕ → Node

@@ -49,27 +49,48 @@ StepWellFormed = (d : Domain) (s : Step) → WellFormed d → WellFormed (step d
 abbrev pub reachableCount : Domain → ℕ
 reachableCount d = count (λ n. eqb (n .state) Reachable) (d .nodes)
 
--- 1 for an accepted step of kind k
-abbrev pub acceptedAs : ℕ → ℕ → ℕ → ℕ
-acceptedAs k kind refusal = cond (eqb refusal 0 && eqb kind k) 1 0
+-- the kinds that raise it: publish and reinsert; and the one that lowers it: remove
+abbrev pub raises : ℕ → Bool
+raises k = eqb k 2 || eqb k 14
 
--- the accepted steps of kind k in a run
-abbrev pub acceptedOf : ℕ → Domain → List Step → ℕ
-acceptedOf k d [] = 0
-acceptedOf k d (s ∷ ss) =
-    acceptedAs k (s .kind) (step d s .refusal) + acceptedOf k (step d s .after) ss
+abbrev pub lowers : ℕ → Bool
+lowers k = eqb k 7
 
--- accepted publishes less accepted removes
+-- 1 for an accepted step of a kind among ks
+abbrev pub acceptedAs : (ℕ → Bool) → ℕ → ℕ → ℕ
+acceptedAs ks kind refusal = cond (eqb refusal 0 && ks kind) 1 0
+
+-- the accepted steps of those kinds in a run
+abbrev pub acceptedOf : (ℕ → Bool) → Domain → List Step → ℕ
+acceptedOf ks d [] = 0
+acceptedOf ks d (s ∷ ss) =
+    acceptedAs ks (s .kind) (step d s .refusal) + acceptedOf ks (step d s .after) ss
+
+-- accepted publishes and reinserts less accepted removes
 abbrev pub Panel : Type 0
 Panel =
-    (a : Params) (ss : List Step) → reachableCount (run (fresh a) ss) + acceptedOf 7 (fresh a) ss ≡ acceptedOf 2 (fresh a) ss
+    (a : Params) (ss : List Step)
+    → reachableCount (run (fresh a) ss) + acceptedOf lowers (fresh a) ss ≡ acceptedOf raises (fresh a) ss
 
--- in one step it rises by an accepted publish and falls by an accepted remove
+-- in one step it rises by an accepted publish or reinsert and falls by an accepted remove
 abbrev pub PanelStep : Type 0
 PanelStep =
     (d : Domain) (s : Step) → WellFormed d
-    → reachableCount (step d s .after) + acceptedAs 7 (s .kind) (step d s .refusal)
-    ≡ reachableCount d + acceptedAs 2 (s .kind) (step d s .refusal)
+    → reachableCount (step d s .after) + acceptedAs lowers (s .kind) (step d s .refusal)
+    ≡ reachableCount d + acceptedAs raises (s .kind) (step d s .refusal)
+
+-- steps s and t are a remove (7) and the reinsert (14) that takes it back: the same process, the same node
+pub record TakenBack (s t : Step) : Type 0 where
+  pub remove : s .kind ≡ 7
+  pub reinsert : t .kind ≡ 14
+  pub process : t .process ≡ s .process
+  pub node : t .node ≡ s .node
+
+-- a reinsert right after the accepted remove is accepted, and the domain is as it was before the two
+abbrev pub RemoveTakenBack : Type 0
+RemoveTakenBack =
+    (d : Domain) (s t : Step) → WellFormed d → TakenBack s t → step d s .refusal ≡ 0
+    → step (step d s .after) t ≡ record { refusal = 0; value = 0; after = d }
 
 -- the kinds whose value is nodes freed: retire and manage
 abbrev pub reportsFreed : ℕ → Bool

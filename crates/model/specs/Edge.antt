@@ -1,32 +1,40 @@
 -- The starred cases of 'On the edge' in the paper, all of them and in its order, and after them those of the later requests: each is data,
 -- what is expected of it written by hand. Assumes nothing.
-use Prim.Native.Nat.{ℕ}
+use Prim.Native.Nat.{ℕ, suc}
 use mathlib.Core.List.{List, [], _∷_, _++_}
 use mathlib.Core.Path.{_≡_}
 use lib.ListN.{replicate}
 use Rattle.model.specs.Params.{Params, InRange, wordCount}
 use Rattle.model.specs.State.{Domain, Step}
 use Rattle.model.specs.WellFormed.{WellFormed}
+use Rattle.model.specs.Kinds.{kindCount}
 use Rattle.model.specs.Machine.{step, run, fresh}
-use Rattle.model.specs.Cases.{Answer, gives, refuses, oks, answersBy, allocate, publish, protect, use'}
-use Rattle.model.specs.Cases.{clear, remove, retire, drain, tick, manage, turnover, shownToAll, params, store}
-use Rattle.model.specs.Cases.{hazard, process, free, reachable, retired, domain, stray}
+use Rattle.model.specs.Claims.{reachableCount, raises, lowers, acceptedOf}
+use Rattle.model.specs.Cases.{Answer, gives, refuses, oks, answersBy, stepOf, allocate, publish, protect}
+use Rattle.model.specs.Cases.{use', clear, remove, retire, drain, tick, manage, reinsert, turnover, shownToAll}
+use Rattle.model.specs.Cases.{stopAndBack, params, store, hazard, process, free, reachable, removed, retired}
+use Rattle.model.specs.Cases.{domain, stray}
 
 pub data Case : Type 0 where
   -- parameters, and the number of words
   Length : Params → ℕ → Case
   -- a start, steps, their answers, and the whole domain afterwards
   Run : Domain → List Step → List Answer → Domain → Case
+  -- a start, steps, how often they raise and lower the panel, and its number afterwards
+  Tally : Domain → List Step → ℕ → ℕ → ℕ → Case
 
 -- what is claimed of a case
 abbrev pub Holds : Case → Type 0
 Holds (Length a n) = wordCount a ≡ n
 Holds (Run d ss xs e) = (answersBy step d ss ≡ xs) × (run d ss ≡ e)
+Holds (Tally d ss up down n) =
+    (acceptedOf raises d ss ≡ up) × (acceptedOf lowers d ss ≡ down) × (reachableCount (run d ss) ≡ n)
 
 -- no case is about a domain that every call would refuse with 3: parameters in range, a well-formed start
 abbrev pub StartsWell : Case → Type 0
 StartsWell (Length a n) = InRange a
 StartsWell (Run d ss xs e) = WellFormed d
+StartsWell (Tally d ss up down n) = WellFormed d
 
 -- a clock that cannot go on, and a pending store that is 3 old
 abbrev pub stopped : Domain
@@ -140,4 +148,36 @@ cases =
     (domain (params 1 1 3 1 1 1) 2 1 0
     (process 0 0 0 (store 0 1 2 ∷ []) (hazard 0 2 0 ∷ []) ∷ [])
     (retired 0 70 0 0 ∷ free ∷ retired 0 60 2 0 ∷ []))
+    -- request 2: a card removed and reposted is as it was, and a claim of before lives through it
+    ∷ Run (fresh (params 2 1 1 1 1 1)) (stopAndBack 1 ++ use' 1 0 ∷ [])
+    (oks 6 ++ gives 70 ∷ [])
+    (domain (params 2 1 1 1 1 1) 0 0 0
+    (process 0 0 0 [] (hazard 0 0 0 ∷ []) ∷ process 0 0 0 (store 0 1 0 ∷ []) (hazard 0 1 1 ∷ []) ∷ [])
+    (reachable 70 ∷ []))
+    -- only by the worker that removed it: 9
+    ∷ Run (fresh (params 2 1 1 1 1 1)) (allocate 0 0 70 ∷ publish 0 0 ∷ remove 1 0 ∷ reinsert 0 0 ∷ [])
+    (oks 3 ++ refuses 9 ∷ [])
+    (domain (params 2 1 1 1 1 1) 0 0 0
+    (process 0 0 0 [] (hazard 0 0 0 ∷ []) ∷ process 0 0 0 [] (hazard 0 0 0 ∷ []) ∷ [])
+    (removed 1 70 ∷ []))
+    -- only a Removed card: Free, Allocated, Reachable and Retired get 8
+    ∷ Run (fresh (params 1 1 1 1 1 2))
+    (reinsert 0 0 ∷ allocate 0 0 70 ∷ reinsert 0 0 ∷ publish 0 0 ∷ reinsert 0 0 ∷ remove 0 0 ∷ retire 0 0 ∷ reinsert 0 0 ∷ [])
+    (refuses 8 ∷ gives 0 ∷ refuses 8 ∷ gives 0 ∷ refuses 8 ∷ gives 0 ∷ gives 0 ∷ refuses 8 ∷ [])
+    (domain (params 1 1 1 1 1 2) 0 0 0
+    (process 0 0 0 [] (hazard 0 0 0 ∷ []) ∷ [])
+    (retired 0 70 0 0 ∷ []))
+    -- a worker and a card out of range: 5 before 7; the kind after the last: 4
+    ∷ Run (fresh (params 1 1 1 1 1 1)) (reinsert 1 1 ∷ reinsert 0 1 ∷ stepOf (suc kindCount) 0 0 0 0 ∷ [])
+    (refuses 5 ∷ refuses 7 ∷ refuses 4 ∷ [])
+    (domain (params 1 1 1 1 1 1) 0 0 0 (process 0 0 0 [] (hazard 0 0 0 ∷ []) ∷ []) (free ∷ []))
+    -- a card that came back goes round as any other: the next scan by the worker that retired it frees it
+    ∷ Run (fresh (params 1 1 2 1 1 1))
+    (allocate 0 0 70 ∷ publish 0 0 ∷ remove 0 0 ∷ reinsert 0 0 ∷ remove 0 0 ∷ retire 0 0 ∷ tick ∷ tick ∷ turnover 0 1 60)
+    (oks 11 ++ gives 1 ∷ [])
+    (domain (params 1 1 2 1 1 1) 2 1 0
+    (process 0 0 0 [] (hazard 0 0 0 ∷ []) ∷ [])
+    (free ∷ retired 0 60 2 0 ∷ []))
+    -- the panel: raised by a publish and a repost, lowered by a remove, and by no refused step
+    ∷ Tally (fresh (params 2 1 1 1 1 1)) (reinsert 1 0 ∷ stopAndBack 1 ++ reinsert 1 0 ∷ []) 2 1 1
     ∷ []

@@ -1,20 +1,29 @@
--- The thirteen kinds of steps and their one table: which fields each reads, what each field is to it, and the node state it needs.
+-- The kinds of steps and their one table: which fields each reads, what each field is to it, and the node state it needs.
 -- Assumes nothing.
-use Prim.Native.Nat.{ℕ}
-use mathlib.Core.Bool.{Bool, true, false, cond}
+use Prim.Native.Nat.{ℕ, zero, suc}
+use mathlib.Core.Bool.{Bool, true, false}
+use mathlib.Core.List.{List, [], _∷_}
+use lib.ListN.{length, getD}
 use lib.Dec.{eqb}
 use Rattle.model.specs.State.{Free, Allocated, Reachable, Removed}
 
--- Flush is the paper's rooster, ClearPresence its roll call
+-- Flush is the paper's rooster, ClearPresence its roll call, Reinsert its repost
 pub data Kind : Type 0 where
-  Allocate Publish Protect Check Use Clear Remove Retire Drain Flush Tick Manage ClearPresence Unknown : Kind
+  Allocate Publish Protect Check Use Clear Remove Retire Drain Flush Tick Manage ClearPresence Reinsert Unknown : Kind
 
+-- every kind that there is, in the order of their numbers from 1 on. How many there are is said by this list alone
+abbrev pub kinds : List Kind
+kinds =
+    Allocate ∷ Publish ∷ Protect ∷ Check ∷ Use ∷ Clear ∷ Remove ∷ Retire ∷ Drain ∷ Flush ∷ Tick ∷ Manage ∷ ClearPresence
+    ∷ Reinsert ∷ []
+
+abbrev pub kindCount : ℕ
+kindCount = length kinds
+
+-- every number that is none of theirs is Unknown
 abbrev pub kindOf : ℕ → Kind
-kindOf k =
-    cond (eqb k 1) Allocate (cond (eqb k 2) Publish (cond (eqb k 3) Protect (cond (eqb k 4) Check
-    (cond (eqb k 5) Use (cond (eqb k 6) Clear (cond (eqb k 7) Remove (cond (eqb k 8) Retire
-    (cond (eqb k 9) Drain (cond (eqb k 10) Flush (cond (eqb k 11) Tick (cond (eqb k 12) Manage
-    (cond (eqb k 13) ClearPresence Unknown))))))))))))
+kindOf zero = Unknown
+kindOf (suc n) = getD kinds n Unknown
 
 abbrev pub numberOf : Kind → ℕ
 numberOf Allocate = 1
@@ -30,6 +39,7 @@ numberOf Flush = 10
 numberOf Tick = 11
 numberOf Manage = 12
 numberOf ClearPresence = 13
+numberOf Reinsert = 14
 numberOf Unknown = 0
 
 abbrev pub is : Kind → Kind → Bool
@@ -91,4 +101,5 @@ rowOf Flush = reading ProcessId Unread Unread Unread
 rowOf Tick = reading Unread Unread Unread Unread
 rowOf Manage = reading ProcessId Unread Unread Unread
 rowOf ClearPresence = reading Unread Unread Unread Unread
+rowOf Reinsert = owning (needing Removed (reading ProcessId Unread NodeId Unread))
 rowOf Unknown = reading Unread Unread Unread Unread

@@ -8,7 +8,7 @@ use Rattle.model.specs.Params.{Params}
 use Rattle.model.specs.State.{Node, Domain, Step, Allocated, Reachable, Removed, Fast, freeNode}
 use Rattle.model.specs.State.{emptyHazard, nodeOf, setNode, setProcess, withClock, clearPresence}
 use Rattle.model.specs.Kinds.{Kind, kindOf, Allocate, Publish, Protect, Check, Use, Clear, Remove, Retire}
-use Rattle.model.specs.Kinds.{Drain, Flush, Tick, Manage, ClearPresence, Unknown}
+use Rattle.model.specs.Kinds.{Drain, Flush, Tick, Manage, ClearPresence, Reinsert, Unknown}
 use Rattle.model.specs.Hazards.{here, target, assign, validating, drained, flushed}
 use Rattle.model.specs.Retire.{Effect, effect, marked, reclaim}
 use Rattle.model.specs.Epochs.{manage}
@@ -26,11 +26,12 @@ refused n d = record { refusal = n; value = 0; after = d }
 abbrev pub accepted : Effect → Outcome
 accepted e = record { refusal = 0; value = e .value; after = e .after }
 
--- ---- 1 Allocate, 2 Publish, 7 Remove
+-- ---- 1 Allocate, 2 Publish and 14 Reinsert, 7 Remove
 
 abbrev pub allocating : Step → Node
 allocating s = record { state = Allocated; owner = s .process; guest = s .guest; retiredAt = 0; limbo = 0 }
 
+-- to Reachable, from Allocated as from Removed
 abbrev pub publishing : Node → Node
 publishing n = record { state = Reachable; owner = 0; guest = n .guest; retiredAt = n .retiredAt; limbo = n .limbo }
 
@@ -52,6 +53,7 @@ act Flush d s = effect 0 (setProcess d (s .process) (flushed (here d s) (here d 
 act Tick d s = effect 0 (withClock d (d .clock + 1))
 act Manage d s = manage d s
 act ClearPresence d s = effect 0 (clearPresence d)
+act Reinsert d s = effect 0 (setNode d (s .node) (publishing (nodeOf d (s .node))))
 act Unknown d s = effect 0 d
 
 -- a refusal number turns the effect away

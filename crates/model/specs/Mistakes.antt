@@ -1,23 +1,27 @@
--- Fifteen plausible mistakes, each as a machine that is wrong in one place, with a closed schedule on which it answers otherwise than the
--- rules. Both lists of answers are written by hand. Assumes nothing.
+-- Twenty plausible mistakes, each as a machine that is wrong in one place, with a closed schedule on which it answers otherwise than the
+-- rules, or leaves another number in the domain. Both lists are written by hand. Assumes nothing.
 use Prim.Native.Nat.{ℕ, suc, _-_}
 use mathlib.Core.Bool.{Bool, true, _&&_, _||_, cond}
 use mathlib.Core.List.{List, [], _∷_, _++_, map}
 use mathlib.Core.Path.{_≡_}
 use mathlib.Core.Logic.{_≢_}
 use lib.Dec.{leb, ltb, eqb}
-use Rattle.lists.specs.Tests.{every, count, implies, lacks}
+use Rattle.lists.specs.Tests.{every, count, lacks}
 use Rattle.model.specs.Params.{Params, delay}
-use Rattle.model.specs.State.{Pending, Hazard, Process, Node, Domain, Step, Reachable, Removed, Fast, Fallback}
-use Rattle.model.specs.State.{processOf, withNodes, withPath, withStores, setProcess, nextEpoch}
-use Rattle.model.specs.Kinds.{Kind, is, kindOf, Protect, Check, Clear, Retire, Tick, Manage}
+use Rattle.model.specs.State.{Pending, Hazard, Process, Node, Domain, Step, Reachable, Removed, Retired, Fast}
+use Rattle.model.specs.State.{Fallback}
+use Rattle.model.specs.State.{nodeOf, processOf, setNode, withNodes, withPath, withStores, setProcess}
+use Rattle.model.specs.State.{nextEpoch}
+use Rattle.model.specs.Kinds.{Kind, is, kindOf, Protect, Check, Clear, Retire, Tick, Manage, Reinsert}
 use Rattle.model.specs.Hazards.{here, target}
 use Rattle.model.specs.Retire.{Effect, effect, retiredBy, ownFrom, visibleTo, aged, due, freeing, marked}
 use Rattle.model.specs.Retire.{overfull, fallBack}
 use Rattle.model.specs.Questions.{ask, firstNo, questions, refusalOf}
 use Rattle.model.specs.Machine.{Outcome, act, answered, step, fresh}
-use Rattle.model.specs.Cases.{Answer, gives, refuses, oks, answersBy, allocate, publish, protect, check}
-use Rattle.model.specs.Cases.{use', clear, remove, retire, flush, tick, manage, turnover, shownToAll}
+use Rattle.model.specs.Claims.{reachableCount}
+use Rattle.model.specs.Cases.{Answer, gives, refuses, oks, answersBy, runBy, allocate, publish, protect, check}
+use Rattle.model.specs.Cases.{use', clear, remove, retire, flush, tick, manage, reinsert, turnover, shownToAll}
+use Rattle.model.specs.Cases.{stopAndBack}
 use Rattle.model.specs.Cases.{params, stray}
 
 -- ---- machines that are right but for one place
@@ -26,11 +30,11 @@ use Rattle.model.specs.Cases.{params, stray}
 abbrev pub doing : (Kind → Domain → Step → Effect) → Domain → Step → Outcome
 doing f d s = answered (refusalOf (kindOf (s .kind)) d s) d (f (kindOf (s .kind)) d s)
 
--- question n, which is for kind j, answered as f answers it
+-- question n of kind j answered as f answers it
 abbrev pub asking : ℕ → Kind → (Domain → Step → Bool) → Domain → Step → Outcome
 asking n j f d s =
     answered
-    (firstNo (map (λ q. cond (eqb (q .number) n) (ask n (implies (is (kindOf (s .kind)) j) (f d s))) q)
+    (firstNo (map (λ q. cond (eqb (q .number) n && is (kindOf (s .kind)) j) (ask n (f d s)) q)
     (questions (kindOf (s .kind)) d s)))
     d (act (kindOf (s .kind)) d s)
 
@@ -149,22 +153,58 @@ othersKnown = scanSees (λ own x. ownFrom (x .buffer) 0 (x .hazards))
 abbrev pub ownVisibleToo : Domain → Step → Outcome
 ownVisibleToo = scanSees (λ own x. cond own (ownFrom (x .buffer) 0 (x .hazards) ++ shown x) (shown x))
 
+-- ---- five, in the putting back of a removed node
+
+-- the node put back as f leaves it
+abbrev pub reinsertBy : (Node → Node) → Domain → Step → Outcome
+reinsertBy f =
+    doing (λ k d s. cond (is k Reinsert) (effect 0 (setNode d (s .node) (f (nodeOf d (s .node))))) (act k d s))
+
+-- the owner is kept
+abbrev pub reinsertKeepsOwner : Domain → Step → Outcome
+reinsertKeepsOwner =
+    reinsertBy (λ n. record { state = Reachable; owner = n .owner; guest = n .guest; retiredAt = n .retiredAt; limbo = n .limbo })
+
+-- any process may reinsert
+abbrev pub reinsertByAnyone : Domain → Step → Outcome
+reinsertByAnyone = asking 9 Reinsert (λ d s. true)
+
+-- a Retired node is taken too
+abbrev pub reinsertTakesRetired : Domain → Step → Outcome
+reinsertTakesRetired =
+    asking 8 Reinsert (λ d s. eqb (nodeOf d (s .node) .state) Removed || eqb (nodeOf d (s .node) .state) Retired)
+
+-- the guest is lost
+abbrev pub reinsertLosesGuest : Domain → Step → Outcome
+reinsertLosesGuest =
+    reinsertBy (λ n. record { state = Reachable; owner = 0; guest = 0; retiredAt = n .retiredAt; limbo = n .limbo })
+
+-- the panel is not raised: the node stays Removed
+abbrev pub reinsertNotRaised : Domain → Step → Outcome
+reinsertNotRaised = reinsertBy (λ n. n)
+
 -- ---- schedules
 
 pub record Mistake : Type 0 where
   pub machine : Domain → Step → Outcome
   pub start : Domain
   pub steps : List Step
-  -- the answers of the rules, and of the machine
+  -- what is read off the domain afterwards, where the answers do not tell
+  pub looks : Domain → List ℕ
+  -- the answers of the rules and what is then read, and those of the machine
   pub right : List Answer
   pub wrong : List Answer
 
 abbrev pub mistakeFrom : Domain → (Domain → Step → Outcome) → List Step → List Answer → List Answer → Mistake
-mistakeFrom d f ss r w = record { machine = f; start = d; steps = ss; right = r; wrong = w }
+mistakeFrom d f ss r w = record { machine = f; start = d; steps = ss; looks = λ _. []; right = r; wrong = w }
 
 -- from a fresh domain
 abbrev pub mistake : (Domain → Step → Outcome) → Params → List Step → List Answer → List Answer → Mistake
 mistake f a ss r w = mistakeFrom (fresh a) f ss r w
+
+-- and with a number read off the domain afterwards
+abbrev pub mistakeLeft : (Domain → Step → Outcome) → Params → List Step → (Domain → ℕ) → List Answer → List Answer → Mistake
+mistakeLeft f a ss look r w = record { machine = f; start = fresh a; steps = ss; looks = λ d. look d ∷ []; right = r; wrong = w }
 
 -- process 1 has validated node 0, of guest 70, and process 0 retires it (6 steps)
 abbrev pub claimed : List Step
@@ -236,13 +276,30 @@ mistakes =
     -- as for the first of the five
     ∷ mistake ownVisibleToo (params 1 1 2 1 1 1) (shownToAll 0 ++ clear 0 0 ∷ [] ++ turnover 0 1 60)
     (oks 12 ++ gives 1 ∷ []) (oks 13)
+    -- no question asks for the owner of a Reachable node: it is 1 where it should be 0
+    ∷ mistakeLeft reinsertKeepsOwner (params 2 1 1 1 1 1) (stopAndBack 1) (λ d. nodeOf d 0 .owner)
+    (oks 6 ++ gives 0 ∷ []) (oks 6 ++ gives 1 ∷ [])
+    -- process 0 puts back what process 1 is about to retire
+    ∷ mistake reinsertByAnyone (params 2 1 1 1 1 1)
+    (allocate 0 0 70 ∷ publish 0 0 ∷ remove 1 0 ∷ reinsert 0 0 ∷ retire 1 0 ∷ [])
+    (oks 3 ++ refuses 9 ∷ gives 0 ∷ []) (oks 4 ++ refuses 8 ∷ [])
+    -- node 0 is on its way to be freed
+    ∷ mistake reinsertTakesRetired (params 1 1 1 1 1 2) (turnover 0 0 70 ++ reinsert 0 0 ∷ [])
+    (oks 4 ++ refuses 8 ∷ []) (oks 5)
+    -- process 1 validated node 0 while it was guest 70's
+    ∷ mistake reinsertLosesGuest (params 2 1 1 1 1 1) (stopAndBack 0 ++ use' 1 0 ∷ [])
+    (oks 6 ++ gives 70 ∷ []) (oks 7)
+    -- accepted, and the panel shows 0 where it should show 1
+    ∷ mistakeLeft reinsertNotRaised (params 2 1 1 1 1 1) (stopAndBack 0) reachableCount
+    (oks 6 ++ gives 1 ∷ []) (oks 6 ++ gives 0 ∷ [])
     ∷ []
 
 -- ---- what is claimed of a mistake
 
--- the rules and the machine answer as foretold, and not alike
+-- what machine f shows of the schedule: its answers, and what is then read off the domain
+abbrev pub shownBy : (Domain → Step → Outcome) → Mistake → List Answer
+shownBy f m = answersBy f (m .start) (m .steps) ++ map gives (m .looks (runBy f (m .start) (m .steps)))
+
+-- the rules and the machine show what was foretold, and not the same
 abbrev pub ToldApart : Mistake → Type 0
-ToldApart m =
-    (answersBy step (m .start) (m .steps) ≡ m .right)
-    × (answersBy (m .machine) (m .start) (m .steps) ≡ m .wrong)
-    × (m .right ≢ m .wrong)
+ToldApart m = (shownBy step m ≡ m .right) × (shownBy (m .machine) m ≡ m .wrong) × (m .right ≢ m .wrong)

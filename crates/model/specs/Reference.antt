@@ -100,7 +100,7 @@ state? k q s = eqb (cellOf q s .state) k
 abbrev pub owner? : Reference → Command → Bool
 owner? q s = eqb (cellOf q s .owner) (s .process)
 
--- what it asks itself at steps 1 to 8; nothing at any other
+-- what it asks itself at steps 1 to 8 and 14; nothing at any other
 unfoldable pub asks : Reference → Command → List Bool
 asks q s =
     cond (eqb (s .kind) 1) (process? q s ∷ node? q s ∷ state? 0 q s ∷ [])
@@ -112,9 +112,10 @@ asks q s =
     (cond (eqb (s .kind) 6) (process? q s ∷ hazard? q s ∷ [])
     (cond (eqb (s .kind) 7) (process? q s ∷ node? q s ∷ state? 2 q s ∷ [])
     (cond (eqb (s .kind) 8) (process? q s ∷ node? q s ∷ state? 3 q s ∷ owner? q s ∷ [])
-    [])))))))
+    (cond (eqb (s .kind) 14) (process? q s ∷ node? q s ∷ state? 3 q s ∷ owner? q s ∷ [])
+    []))))))))
 
--- ---- what it does at steps 1 to 8; nothing at any other
+-- ---- what it does at steps 1 to 8 and 14; nothing at any other
 unfoldable pub follow : Reference → Command → Reference
 follow q s =
     cond (eqb (s .kind) 1) (setCell q (s .node) (record { state = 1; owner = s .process; guest = s .guest }))
@@ -125,7 +126,8 @@ follow q s =
     (cond (eqb (s .kind) 6) (setPointer q (s .process) (s .hazard) (record { assigned = 0; validated = 0 }))
     (cond (eqb (s .kind) 7) (setCell q (s .node) (record { state = 3; owner = s .process; guest = cellOf q s .guest }))
     (cond (eqb (s .kind) 8) (setCell q (s .node) (record { state = 4; owner = cellOf q s .owner; guest = cellOf q s .guest }))
-    q))))))
+    (cond (eqb (s .kind) 14) (setCell q (s .node) (record { state = 2; owner = 0; guest = cellOf q s .guest }))
+    q)))))))
 
 -- the value of a use
 unfoldable pub valueOf : Reference → Command → ℕ

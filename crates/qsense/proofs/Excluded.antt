@@ -14,6 +14,7 @@ use Rattle.lists.proofs.Facts.{every-at}
 use Rattle.model.specs.Params.{Params, InRange}
 use Rattle.model.specs.State.{Pending, Process, Domain, Step, noProcess}
 use Rattle.model.specs.WellFormed.{WellFormed}
+use Rattle.model.specs.Kinds.{kindCount}
 use Rattle.model.specs.Hazards.{here, young}
 use Rattle.model.specs.Machine.{step, run, fresh}
 use Rattle.model.specs.Cases.{stepOf, protect, use', tick, manage}
@@ -127,7 +128,7 @@ excluded = record {
   refuses-each = λ f w e. w _ _ (refusal-is least fits-least [] tick f e);
   answers-zeros = (
     (λ f w e. eqb-false 0 70 refl (sym (w _ _ .1) ∙ value-is least fits-least guarded (use' 0 0) f e)),
-    (λ f w e. eqb-false 0 4 refl (sym (w _ _ .0) ∙ refusal-is least fits-least [] (stepOf 14 0 0 0 0) f e)),
+    (λ f w e. eqb-false 0 4 refl (sym (w _ _ .0) ∙ refusal-is least fits-least [] (stepOf (suc kindCount) 0 0 0 0) f e)),
   );
   writes-nothing =
       λ f w e. eqb-false 0 1 refl

@@ -1,6 +1,6 @@
 -- On the words of a well-formed domain a step, a run, its accepted steps and the reachable count are the model's. Assumes nothing.
 use Prim.Native.Nat.{ℕ, _+_}
-use mathlib.Core.Bool.{true}
+use mathlib.Core.Bool.{Bool, true}
 use mathlib.Core.List.{List, [], _∷_}
 use mathlib.Core.Path.{_≡_, refl, ap, _∙_}
 use Rattle.model.specs.State.{Domain, Step}
@@ -33,11 +33,11 @@ pub run-well-formed : (ss : List Step) {d : Domain} → WellFormed d → WellFor
 run-well-formed [] f = f
 run-well-formed (s ∷ ss) {d} f = run-well-formed ss (step-well-formed d s f)
 
-pub accepted-through : (k : ℕ) (ss : List Step) {d : Domain} → WellFormed d → acceptedIn k (encode d) ss ≡ acceptedOf k d ss
-accepted-through k [] f = refl
-accepted-through k (s ∷ ss) {d} f =
-    ap (λ (r : Reply). acceptedAs k (s .kind) (r .refusal) + acceptedIn k (r .words) ss) (step-through f s)
-    ∙ ap (λ (n : ℕ). acceptedAs k (s .kind) (step d s .refusal) + n) (accepted-through k ss (step-well-formed d s f))
+pub accepted-through : (ks : ℕ → Bool) (ss : List Step) {d : Domain} → WellFormed d → acceptedIn ks (encode d) ss ≡ acceptedOf ks d ss
+accepted-through ks [] f = refl
+accepted-through ks (s ∷ ss) {d} f =
+    ap (λ (r : Reply). acceptedAs ks (s .kind) (r .refusal) + acceptedIn ks (r .words) ss) (step-through f s)
+    ∙ ap (λ (n : ℕ). acceptedAs ks (s .kind) (step d s .refusal) + n) (accepted-through ks ss (step-well-formed d s f))
 
 -- the panel call on the words of a well-formed domain
 abbrev pub counted : Domain → Reply

@@ -20,7 +20,7 @@ use Rattle.model.specs.Questions.{ask, firstNo, questions}
 use Rattle.model.specs.Retire.{Effect}
 use Rattle.model.specs.Machine.{Outcome, answered, act, step, run, fresh}
 use Rattle.model.specs.Reference.{initial}
-use Rattle.model.specs.Claims.{noHistory, turnedFree, freedCount, reachableCount}
+use Rattle.model.specs.Claims.{raises, lowers, noHistory, turnedFree, freedCount, reachableCount}
 use Rattle.model.proofs.Theorems as Model
 use Rattle.model.proofs.Freed.{none-turned}
 use Rattle.layout.specs.Encode.{encode, decode}
@@ -29,15 +29,18 @@ use Rattle.layout.proofs.Sound.{decoded}
 use Rattle.layout.proofs.Checked.{well-formed-sound}
 use Rattle.layout.specs.Ranges.{inRange}
 use Rattle.trace.specs.Trace as T
-use Rattle.trace.specs.Trace.{Reading, refused, given, Front, frontAt, frontOf, traceAt, traceOf, trailerRight, paramsOf, questioned}
+use Rattle.trace.specs.Trace.{Reading, refused, given, Front, frontAt, frontOf, traceAt, traceOf, trailerRight}
+use Rattle.trace.specs.Trace.{paramsOf, questioned}
 use Rattle.trace.specs.Values.{openedValue, refusalOf}
 use Rattle.trace.specs.declared.Opened.{Opened}
 use Rattle.trace.specs.declared.Opened.the-variants.{Found, TooLong, NoTrailer, OutOfRange}
 use Rattle.qsense.specs.Calls.{Reply, refusing, throughWords, makeWords, stepWords, reachableWords, runWords}
 use Rattle.qsense.specs.Demands.{short, Refuses, Declines, Demand1}
-use Rattle.qsense.specs.Demands.{Demand2, FreedAreCountedWords, RefusedForStores, Demand3Words}
+use Rattle.qsense.specs.Demands.{Demand2, RemoveTakenBackWords, FreedAreCountedWords, RefusedForStores}
+use Rattle.qsense.specs.Demands.{Demand3Words}
 use Rattle.qsense.specs.Demands.{acceptedIn, outcomeOf, FollowsWords}
-use Rattle.qsense.proofs.ModelOnWords.{run-through, run-well-formed, counted, panel-through, accepted-through}
+use Rattle.qsense.proofs.ModelOnWords.{step-through, run-through, run-well-formed, counted, panel-through}
+use Rattle.qsense.proofs.ModelOnWords.{accepted-through}
 use Rattle.qsense.proofs.Made.{made}
 use Rattle.qsense.proofs.Demand3OnWords.{follows-words}
 use Rattle.qsense.proofs.RefusedForStores.{full, old}
@@ -124,19 +127,30 @@ demand-1 = record {
 abbrev Counts : List Step → List ℕ → Type 0
 Counts ss w =
     (reachableWords (runWords w ss) .refusal ≡ 0)
-    × (reachableWords (runWords w ss) .value + acceptedIn 7 w ss ≡ acceptedIn 2 w ss)
+    × (reachableWords (runWords w ss) .value + acceptedIn lowers w ss ≡ acceptedIn raises w ss)
 
 counts-fresh : (a : Params) (ss : List Step) → WellFormed (fresh a) → Counts ss (encode (fresh a))
 counts-fresh a ss f =
     let e : reachableWords (runWords (encode (fresh a)) ss) ≡ counted (run (fresh a) ss) =
     ap (λ (w : List ℕ). reachableWords w) (run-through ss f) ∙ panel-through (run-well-formed ss f) in (
       ap (λ (r : Reply). r .refusal) e,
-      omega (arith, ap (λ (r : Reply). r .value) e, accepted-through 7 ss f, accepted-through 2 ss f, Model.panel a ss),
+      omega (arith, ap (λ (r : Reply). r .value) e, accepted-through lowers ss f, accepted-through raises ss f, Model.panel a ss),
     )
 
 pub demand-2 : Demand2
 demand-2 ws a ss ok =
     let m = made ws a ok in subst (Counts ss) (sym (m .words)) (counts-fresh a ss (Model.fresh-well-formed a (m .range)))
+
+-- ---- a remove that is taken back
+
+pub remove-taken-back : RemoveTakenBackWords
+unfolding stepWords
+remove-taken-back ws s t b =
+    by-cond (λ (r : Reply). r .refusal ≡ 0 → stepWords (r .words) t ≡ refusing 0 ws) (wellFormed ws)
+    (λ e ok. let w = well-formed-sound ws e in
+    step-through (Model.step-well-formed (decode ws) s (w .domain)) t
+    ∙ ap throughWords (Model.remove-taken-back (decode ws) s t (w .domain) b ok) ∙ ap (refusing 0) (sym (w .whole)))
+    (λ _ e. absurd (eqb-false 3 0 refl e))
 
 -- ---- freed counts, and refusals for stores
 

@@ -15,7 +15,8 @@ use Rattle.model.specs.Hazards.{here, young}
 use Rattle.model.specs.Questions.{Question, ask, firstNo, questions}
 use Rattle.model.specs.Machine.{Outcome}
 use Rattle.model.specs.Reference.{Reference, initial, freeEach}
-use Rattle.model.specs.Claims.{acceptedAs, turnedFree, freedCount, Matches, Bounded, History, noHistory, recorded}
+use Rattle.model.specs.Claims.{raises, lowers, acceptedAs, TakenBack, turnedFree, freedCount, Matches, Bounded}
+use Rattle.model.specs.Claims.{History, noHistory, recorded}
 use Rattle.model.specs.Claims.{led}
 use Rattle.layout.specs.Encode.{decode}
 use Rattle.layout.specs.Words.{wellFormed}
@@ -62,19 +63,26 @@ pub record Demand1 : Type 0 where
   -- the number that the code answers for what comes of opening one
   pub opened : (bs : List ℕ) (o : Opened) → openedValue o ≡ frontOf bs → refusalOf o ≡ firstNo (traceQuestions bs)
 
--- ---- Demand 2: after any run the panel call itself answers 0 and accepted publishes less accepted removes
+-- ---- Demand 2: after any run the panel call itself answers 0 and accepted publishes and reinserts less accepted removes
 
-abbrev pub acceptedIn : ℕ → List ℕ → List Step → ℕ
-acceptedIn k ws [] = 0
-acceptedIn k ws (s ∷ ss) =
-    acceptedAs k (s .kind) (stepWords ws s .refusal) + acceptedIn k (stepWords ws s .words) ss
+abbrev pub acceptedIn : (ℕ → Bool) → List ℕ → List Step → ℕ
+acceptedIn ks ws [] = 0
+acceptedIn ks ws (s ∷ ss) =
+    acceptedAs ks (s .kind) (stepWords ws s .refusal) + acceptedIn ks (stepWords ws s .words) ss
 
 abbrev pub Demand2 : Type 0
 Demand2 =
     (ws : List ℕ) (a : Params) (ss : List Step) → makeWords ws a .refusal ≡ 0
     → (reachableWords (runWords (makeWords ws a .words) ss) .refusal ≡ 0)
-    × (reachableWords (runWords (makeWords ws a .words) ss) .value + acceptedIn 7 (makeWords ws a .words) ss
-    ≡ acceptedIn 2 (makeWords ws a .words) ss)
+    × (reachableWords (runWords (makeWords ws a .words) ss) .value + acceptedIn lowers (makeWords ws a .words) ss
+    ≡ acceptedIn raises (makeWords ws a .words) ss)
+
+-- on any words: a reinsert right after the accepted remove of the same process and node is accepted, and the words are again, every one,
+-- what they were
+abbrev pub RemoveTakenBackWords : Type 0
+RemoveTakenBackWords =
+    (ws : List ℕ) (s t : Step) → TakenBack s t → stepWords ws s .refusal ≡ 0
+    → stepWords (stepWords ws s .words) t ≡ record { refusal = 0; value = 0; words = ws }
 
 -- the reply with the domain that its words hold
 abbrev pub outcomeOf : Reply → Outcome

@@ -11,6 +11,7 @@ use lib.Dec.{ltb, eqb}
 use Rattle.lists.specs.Tests.{every}
 use Rattle.model.specs.Params.{Params}
 use Rattle.model.specs.State.{Domain, Step}
+use Rattle.model.specs.Kinds.{kindCount}
 use Rattle.model.specs.Machine.{fresh}
 use Rattle.model.specs.Cases.{params, stepOf, allocate, publish, protect, check, use', tick, manage, turnover}
 use Rattle.model.specs.Claims.{turnedFree, reportsFreed, freedCount}
@@ -129,8 +130,8 @@ twice = once ++ manage 0 ∷ [] ++ turnover 0 0 80 ++ replicate 5 (manage 0)
 pub record Excluded : Type 0 where
   -- a desk that refuses each step
   pub refuses-each : WrongAfter least [] tick RefusesEach
-  -- one that answers 0 and 0 to all: a use answers the guest, and a step 14 is refused
-  pub answers-zeros : WrongAfter least guarded (use' 0 0) AnswersZeros × WrongAfter least [] (stepOf 14 0 0 0 0) AnswersZeros
+  -- one that answers 0 and 0 to all: a use answers the guest, and a step of the kind after the last is refused
+  pub answers-zeros : WrongAfter least guarded (use' 0 0) AnswersZeros × WrongAfter least [] (stepOf (suc kindCount) 0 0 0 0) AnswersZeros
   -- one that writes nothing
   pub writes-nothing : WrongAfter least [] tick WritesNothing
   -- one that frees at its first acting manage and later only says so

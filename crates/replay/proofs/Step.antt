@@ -1,9 +1,9 @@
 -- One step on sound words: what it answers and leaves is what the rules say, the reachable count goes with it, and its line follows what
 -- was put before it. Assumes nothing.
 use Prim.Native.Nat.{ℕ, _+_, _-_, _≤_, _<_}
-use mathlib.Core.Bool.{Bool, true, false, _&&_, cond}
+use mathlib.Core.Bool.{Bool, true, false, _&&_, cond, false≢true}
 use mathlib.Core.List.{List, _++_}
-use mathlib.Core.Path.{_≡_, refl, ap, _∙_, subst}
+use mathlib.Core.Path.{_≡_, refl, sym, ap, _∙_, subst}
 use mathlib.Core.Logic.{_≢_}
 use native.Mathlib.Omega.{arith}
 use lib.ListN.{length, take}
@@ -12,7 +12,7 @@ use borrow.Author.Tests.{ne-eqb, eqb-true}
 use Rattle.lists.proofs.Counts.{count-most}
 use Rattle.model.specs.State.{Node, Step, Reachable}
 use Rattle.model.specs.Machine.{step}
-use Rattle.model.specs.Claims.{acceptedAs, reachableCount}
+use Rattle.model.specs.Claims.{raises, lowers, acceptedAs, reachableCount}
 use Rattle.model.proofs.Theorems.{step-well-formed, panel-step}
 use Rattle.layout.specs.Encode.{decode}
 use Rattle.layout.proofs.Sound.{decoded}
@@ -24,12 +24,12 @@ use Rattle.replay.proofs.Sizes.{refusal-low, step-size}
 
 -- ---- the reachable count
 
--- a step is not both a remove and a publish
-apart : (k n m : ℕ) (a b : Bool) → eqb k 7 ≡ b → m + cond (a && b) 1 0 ≡ n + cond (a && eqb k 2) 1 0 → cond (a && b) 1 0 ≤ n
+-- a step does not both lower and raise it
+apart : (k n m : ℕ) (a b : Bool) → lowers k ≡ b → m + cond (a && b) 1 0 ≡ n + cond (a && raises k) 1 0 → cond (a && b) 1 0 ≤ n
 apart k n m false b e h = omega arith
 apart k n m true false e h = omega arith
 apart k n m true true e h =
-    let other : eqb k 2 ≡ false = ne-eqb k 2 (λ q. let z = eqb-true k 7 e in omega arith) in
+    let other : raises k ≡ false = ap raises (eqb-true k 7 e) in
     let one : m + 1 ≡ n + 0 = h ∙ ap (λ (x : Bool). n + cond x 1 0) other in
     omega arith
 
@@ -44,25 +44,28 @@ module _ (n kind refusal : ℕ) where
   pub count-refused : refusal ≢ 0 → n ≡ countAfter n kind refusal
   count-refused h = rw (ne-eqb refusal 0 h) (omega arith)
 
-  pub count-raised : refusal ≡ 0 → kind ≡ 2 → n + 1 ≡ countAfter n kind refusal
-  count-raised e k = rw (e, k) (omega arith)
+  pub count-raised : refusal ≡ 0 → raises kind ≡ true → n + 1 ≡ countAfter n kind refusal
+  count-raised e k = rw (e, k, level k) (omega arith)
+    where
+      level : raises kind ≡ true → lowers kind ≡ false
+      level h = ne-eqb kind 7 (λ q. false≢true (sym (ap raises q) ∙ h))
 
-  pub count-positive : refusal ≡ 0 → kind ≡ 7 → acceptedAs 7 kind refusal ≤ n → 1 ≤ n
+  pub count-positive : refusal ≡ 0 → kind ≡ 7 → acceptedAs lowers kind refusal ≤ n → 1 ≤ n
   count-positive e k = rw (e, k) (λ h. h)
 
   pub count-lowered : refusal ≡ 0 → kind ≡ 7 → n - 1 ≡ countAfter n kind refusal
   count-lowered e k = rw (e, k) (omega arith)
 
-  pub count-kept : refusal ≡ 0 → kind ≢ 2 → kind ≢ 7 → n ≡ countAfter n kind refusal
-  count-kept e p r = rw (e, ne-eqb kind 2 p, ne-eqb kind 7 r) (omega arith)
+  pub count-kept : refusal ≡ 0 → raises kind ≡ false → kind ≢ 7 → n ≡ countAfter n kind refusal
+  count-kept e p r = rw (e, p, ne-eqb kind 7 r) (omega arith)
 
 module _ (ws : List ℕ) (n : ℕ) (c : Counted ws n) (s : Step) (r v : ℕ) (ws' : List ℕ) (h : Stepped (step (decode ws) s) r v ws') where
-  law : reachableCount (step (decode ws) s .after) + acceptedAs 7 (s .kind) r ≡ n + acceptedAs 2 (s .kind) r
+  law : reachableCount (step (decode ws) s .after) + acceptedAs lowers (s .kind) r ≡ n + acceptedAs raises (s .kind) r
   law = rw (h .refusal, c .1) (panel-step (decode ws) s (c .0 .domain))
 
   -- a remove is accepted only where a node is Reachable
-  pub lowered : acceptedAs 7 (s .kind) r ≤ n
-  lowered = apart (s .kind) n _ (eqb r 0) (eqb (s .kind) 7) refl law
+  pub lowered : acceptedAs lowers (s .kind) r ≤ n
+  lowered = apart (s .kind) n _ (eqb r 0) (lowers (s .kind)) refl law
 
   after-is : decode ws' ≡ step (decode ws) s .after
   after-is = decoded (h .words) (step-well-formed (decode ws) s (c .0 .domain))

@@ -6,7 +6,7 @@ use lib.ListN.{length, take}
 use Rattle.model.specs.Params.{wordCount}
 use Rattle.model.specs.State.{Step}
 use Rattle.model.specs.Machine.{step, run, fresh}
-use Rattle.model.specs.Claims.{acceptedAs, reachableCount}
+use Rattle.model.specs.Claims.{raises, lowers, acceptedAs, reachableCount}
 use Rattle.layout.specs.Encode.{encode, decode}
 use Rattle.layout.specs.Sound.{Sound}
 use Rattle.trace.specs.Trace.{given, Front, frontOf, Trace}
@@ -14,9 +14,9 @@ use Rattle.replay.specs.Most.{mostStepLine, bookRoom}
 use Rattle.replay.specs.Lines.{stepLine, stepLines, bookText}
 use Rattle.replay.specs.declared.Turn.{Turn}
 
--- the reachable count after a step, from the count before it: a publish (2) raises it, a remove (7) lowers it
+-- the reachable count after a step, from the count before it
 abbrev pub countAfter : ℕ → ℕ → ℕ → ℕ
-countAfter n kind refusal = n + acceptedAs 2 kind refusal - acceptedAs 7 kind refusal
+countAfter n kind refusal = n + acceptedAs raises kind refusal - acceptedAs lowers kind refusal
 
 -- n is the reachable count of the sound words ws
 abbrev pub Counted : List ℕ → ℕ → Type 0

@@ -10,7 +10,7 @@ ghost use mathlib.Core.Path.{_≡_};
 ghost use Prim.Native.Nat.{_+_, _*_, _≤_, _<_};
 ghost use lib.ListN.{length};
 ghost use Rattle.model.specs.Params.{lastClock};
-ghost use Rattle.model.specs.Claims.{acceptedAs};
+ghost use Rattle.model.specs.Claims.{lowers, acceptedAs};
 ghost use Rattle.layout.specs.Sound.{Sound};
 ghost use Rattle.trace.specs.Bytes.{stepAt, stepsFrom};
 ghost use Rattle.trace.specs.Claims.{ledFrom};
@@ -25,18 +25,19 @@ struct Turn {
     reachable: u32,
 }
 
-// The reachable count after a step, from the one before it: one more after an accepted publish, one less after an accepted remove.
+// The reachable count after a step, from the one before it: one more after an accepted publish or reinsert, one less after an accepted
+// remove.
 fn counted(reachable: u32, kind: u32, refusal: u32) -> u32
-    requires { ⌜ (reachable < lastClock) × (acceptedAs 7 kind refusal ≤ reachable) ⌝ }
+    requires { ⌜ (reachable < lastClock) × (acceptedAs lowers kind refusal ≤ reachable) ⌝ }
     ensures { λ r. ⌜ r ≡ countAfter reachable kind refusal ⌝ }
 {
     if refusal != 0 {
         return reachable;
     }
-    if kind == 2 {
+    if (kind == kinds::PUBLISH) | (kind == kinds::REINSERT) {
         return reachable + 1;
     }
-    if kind == 7 {
+    if kind == kinds::REMOVE {
         return reachable - 1;
     }
     reachable

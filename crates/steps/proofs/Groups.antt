@@ -8,8 +8,8 @@ use Rattle.kinds.proofs.Rows.{unknown}
 use Rattle.steps.specs.Groups.{OnNode, OnHazard, OnProcess, OnDomain}
 
 module _ {kind : ℕ} where
-  pub last-on-node : OnNode kind → kind ≢ 1 → kind ≢ 2 → kind ≢ 7 → kind ≡ 8
-  last-on-node g n1 n2 n7 = ⊎-elim (λ h. absurd (omega arith)) (λ h. omega arith) g
+  pub last-on-node : OnNode kind → kind ≢ 1 → kind ≢ 2 → kind ≢ 7 → kind ≢ 8 → kind ≡ 14
+  last-on-node g n1 n2 n7 n8 = ⊎-elim (λ h. absurd (omega arith)) (⊎-elim (λ h. absurd (omega arith)) (λ h. h)) g
 
   pub last-on-hazard : OnHazard kind → kind ≢ 3 → kind ≢ 4 → kind ≢ 5 → kind ≡ 6
   last-on-hazard g n3 n4 n5 = omega arith
@@ -23,8 +23,8 @@ module _ {kind : ℕ} where
   pub none-below : kind < 1 → kindOf kind ≡ Unknown
   none-below h = let e : kind ≡ 0 = omega arith in ap kindOf e
 
-  pub none-beyond : 11 ≤ kind → kind ≢ 12 → ((kind ≡ 11) ⊎ (kind ≡ 13) → ⊥) → kindOf kind ≡ Unknown
-  none-beyond h n12 n =
+  pub none-beyond : 11 ≤ kind → kind ≢ 12 → ((kind ≡ 11) ⊎ (kind ≡ 13) → ⊥) → kind ≢ 14 → kindOf kind ≡ Unknown
+  none-beyond h n12 n n14 =
       let n11 : kind ≢ 11 = λ e. n (inl e) in
       let n13 : kind ≢ 13 = λ e. n (inr e) in
       unknown kind (omega arith)

@@ -4,9 +4,9 @@ use mathlib.Core.Path.{_≡_}
 use mathlib.Core.Logic.{_⊎_}
 use Rattle.model.specs.Params.{Between}
 
--- a process and a node: allocate, publish, remove, retire
+-- a process and a node: allocate, publish, remove, retire, reinsert
 abbrev pub OnNode : ℕ → Type 0
-OnNode kind = Between 1 2 kind ⊎ Between 7 8 kind
+OnNode kind = Between 1 2 kind ⊎ (Between 7 8 kind ⊎ (kind ≡ 14))
 
 -- a process and a hazard of it: protect, check, use, clear
 abbrev pub OnHazard : ℕ → Type 0

@@ -18,7 +18,7 @@ pub struct Answer {
     pub value: u32,
 }
 
-// Kinds 1, 2, 7 and 8.
+// Kinds 1, 2, 7, 8 and 14.
 fn node_step(
     words: &mut [u32],
     kind: u32,
@@ -52,12 +52,19 @@ fn node_step(
             }
             layout::pair(0, node_kinds::remove(words, p, c))
         }
-        _ => {
+        8 => {
             let no = questions::refusal(words, 8, p, h, c, guest);
             if no != 0 {
                 return layout::wide(no);
             }
             layout::pair(0, retire::retire(words, p, c))
+        }
+        _ => {
+            let no = questions::refusal(words, 14, p, h, c, guest);
+            if no != 0 {
+                return layout::wide(no);
+            }
+            layout::pair(0, node_kinds::reinsert(words, p, c))
         }
     }
 }
@@ -186,7 +193,7 @@ pub fn take_step(
     ensures { λ r. ⌜ SteppedTo (now (words .entry)) kind (p .0) (h .0) (c .0) guest r (now (words .exit)) ⌝ }
 {
     match kind {
-        1..=2 | 7..=8 => node_step(words, kind, p, h, c, guest),
+        1..=2 | 7..=8 | 14 => node_step(words, kind, p, h, c, guest),
         3..=6 => hazard_step(words, kind, p, h, c, guest),
         9..=10 | 12 => process_step(words, kind, p, h, c, guest),
         11 | 13 => domain_step(words, kind, p, h, c, guest),

@@ -45,11 +45,13 @@ pub struct Store {
     pub time: u32,
 }
 
+/// `OwnedReachable` is Reachable with an owner: no well-formed domain has it, and only a mistake makes it.
 #[derive(Clone, Debug, PartialEq)]
 pub enum Node {
     Free,
     Allocated { owner: u32, guest: u32 },
     Reachable { guest: u32 },
+    OwnedReachable { owner: u32, guest: u32 },
     Removed { owner: u32, guest: u32 },
     Retired { owner: u32, guest: u32, retired_at: u32, limbo: u32 },
 }
@@ -58,7 +60,10 @@ impl Node {
     pub fn owner(&self) -> Option<u32> {
         match *self {
             Node::Free | Node::Reachable { .. } => None,
-            Node::Allocated { owner, .. } | Node::Removed { owner, .. } | Node::Retired { owner, .. } => Some(owner),
+            Node::Allocated { owner, .. }
+            | Node::OwnedReachable { owner, .. }
+            | Node::Removed { owner, .. }
+            | Node::Retired { owner, .. } => Some(owner),
         }
     }
 
@@ -67,6 +72,7 @@ impl Node {
             Node::Free => 0,
             Node::Allocated { guest, .. }
             | Node::Reachable { guest }
+            | Node::OwnedReachable { guest, .. }
             | Node::Removed { guest, .. }
             | Node::Retired { guest, .. } => guest,
         }
@@ -76,7 +82,7 @@ impl Node {
         match self {
             Node::Free => State::Free,
             Node::Allocated { .. } => State::Allocated,
-            Node::Reachable { .. } => State::Reachable,
+            Node::Reachable { .. } | Node::OwnedReachable { .. } => State::Reachable,
             Node::Removed { .. } => State::Removed,
             Node::Retired { .. } => State::Retired,
         }

@@ -22,6 +22,7 @@ impl Model {
             Kind::Tick => self.domain.clock += 1,
             Kind::Manage => return self.manage(step.process),
             Kind::ClearPresence => self.clear_presence(),
+            Kind::Reinsert => self.reinsert(step),
         }
         0
     }
@@ -53,6 +54,17 @@ impl Model {
     fn guest(&self, step: Step) -> u32 {
         let assigned = self.domain.hazard(step.process, step.hazard).assigned;
         assigned.map_or(0, |node| self.domain.node(node).guest())
+    }
+
+    fn reinsert(&mut self, step: Step) {
+        let rules = self.rules;
+        let node = self.node(step);
+        let guest = if rules.have(Mistake::ReinsertLosesGuest) { 0 } else { node.guest() };
+        *node = match node.owner() {
+            _ if rules.have(Mistake::ReinsertNotRaised) => return,
+            Some(owner) if rules.have(Mistake::ReinsertKeepsOwner) => Node::OwnedReachable { owner, guest },
+            _ => Node::Reachable { guest },
+        };
     }
 
     fn flush(&mut self, process: u32) {

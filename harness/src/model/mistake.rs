@@ -41,6 +41,12 @@ mistakes! {
     OwnAssigned
     OthersStoresKnown
     OwnVisibleToo
+    // in the putting back of a node
+    ReinsertKeepsOwner
+    ReinsertByAnyone
+    ReinsertTakesRetired
+    ReinsertLosesGuest
+    ReinsertNotRaised
     // in the order of the questions
     AsksOwnerBeforeState
     AsksAgeBeforeClock
@@ -90,6 +96,15 @@ impl Mistake {
     /// Those by which a process comes to hold more unfreed nodes than the bound allows.
     pub const UNBOUNDED: &'static [Mistake] =
         &[Mistake::ScansCurrentLimboOnly, Mistake::SwitchesOverC, Mistake::SwitchesWithoutScan, Mistake::OwnVisibleToo];
+
+    /// Those in a step that the reference has too: it asks a question with the answer no, or holds the node otherwise afterwards.
+    pub const UNFOLLOWED: &'static [Mistake] = &[
+        Mistake::ReinsertKeepsOwner,
+        Mistake::ReinsertByAnyone,
+        Mistake::ReinsertTakesRetired,
+        Mistake::ReinsertLosesGuest,
+        Mistake::ReinsertNotRaised,
+    ];
 
     /// Those that the reference cannot object to: by the time that a scan may free a node, the store of a claim on it is committed, and
     /// no later one to that hazard is pending. Only the answers tell them from the rules.

@@ -21,8 +21,8 @@ pub const QUESTIONS: &[Question] = &[
     ask(5, |model, kind, step| !kind.reads(Field::Process) || step.process < model.domain.params.processes),
     ask(6, |model, kind, step| !kind.reads(Field::Hazard) || step.hazard < model.domain.params.hazards),
     ask(7, |model, kind, step| !kind.reads(Field::Node) || step.node < model.domain.params.nodes),
-    ask(8, |model, kind, step| kind.row().needs.is_none_or(|state| model.domain.node(step.node).state() == state)),
-    ask(9, |model, kind, step| !kind.row().owns || model.domain.node(step.node).owner().unwrap_or(0) == step.process),
+    ask(8, |model, kind, step| kind.row().needs.is_none_or(|state| model.is_in(state, kind, step.node))),
+    ask(9, |model, kind, step| !model.asks_owner(kind) || model.owner(step.node) == step.process),
     ask(10, |model, kind, step| kind != Kind::Check || model.assigned(step).is_some()),
     ask(11, |model, kind, step| kind != Kind::Check || model.assigned(step).is_some_and(|node| model.may_check(node))),
     ask(12, |model, kind, step| kind != Kind::Use || model.domain.hazard(step.process, step.hazard).validated),
@@ -60,6 +60,22 @@ impl Model {
             }
             _ => first,
         }
+    }
+
+    /// Whether the node is in the state that the kind needs.
+    fn is_in(&self, needed: State, kind: Kind, node: u32) -> bool {
+        let state = self.domain.node(node).state();
+        let retired_too = kind == Kind::Reinsert && self.rules.have(Mistake::ReinsertTakesRetired);
+        state == needed || retired_too && state == State::Retired
+    }
+
+    fn asks_owner(&self, kind: Kind) -> bool {
+        kind.row().owns && !(kind == Kind::Reinsert && self.rules.have(Mistake::ReinsertByAnyone))
+    }
+
+    /// The owner as the words have it: 0 for none.
+    fn owner(&self, node: u32) -> u32 {
+        self.domain.node(node).owner().unwrap_or(0)
     }
 
     fn of(&self, step: Step) -> &Process {

@@ -27,8 +27,12 @@ const PENDING: usize = HEAD + LEAD_STORES;
 const ASSIGNED: usize = HEAD + LEAD + 1;
 const VALIDATED: usize = HEAD + LEAD + 2;
 const FIRST_STORE: usize = HEAD + LEAD + HAZARD;
+// of a process where K = 1: all its words
+const PROCESS: usize = LEAD + HAZARD + STORE * BUFFER;
 // of nodes where N = K = 1: its state
-const NODES: [usize; 2] = [FIRST_STORE + STORE * BUFFER, FIRST_STORE + STORE * BUFFER + NODE];
+const NODES: [usize; 2] = [HEAD + PROCESS, HEAD + PROCESS + NODE];
+// of nodes where N = 2 and K = 1: the state of the first
+const NODES_OF_TWO: usize = HEAD + 2 * PROCESS;
 
 pub fn all(report: &mut Report, calls: &Calls) {
     report.test("edge: length at 1, 1, 1 and at 16, 8, 256", || {
@@ -77,7 +81,11 @@ fn fresh(params: Params) -> Vec<u32> {
 }
 
 fn of(kind: Kind) -> Step {
-    Step::new(kind, 0, 0, 0, 0)
+    by(0, kind, 0)
+}
+
+fn by(process: u32, kind: Kind, node: u32) -> Step {
+    Step::new(kind, process, 0, node, 0)
 }
 
 /// A node from Free to Retired by process 0.
@@ -91,7 +99,9 @@ fn scan_after(ticks: usize) -> Vec<Step> {
 }
 
 fn cases() -> Vec<Case> {
-    [scans(), thresholds(), claims(), vec![stopped()], own_stores(), vec![stray()]].into_iter().flatten().collect()
+    let first = [scans(), thresholds(), claims(), vec![stopped()]];
+    let requests = [own_stores(), vec![stray()], refused_reinserts(), reinserts(), after_reinserts()];
+    first.into_iter().chain(requests).flatten().collect()
 }
 
 /// A case from a fresh domain.
@@ -176,7 +186,6 @@ fn own_stores() -> Vec<Case> {
     let stored =
         |kinds: [Kind; 2]| [turnover(0, 70), vec![of(Kind::Tick); 2], kinds.map(of).to_vec(), turnover(1, 60)].concat();
     let (freed, kept) = ([(NODES[0], 0), (NODES[1], 4)], [(NODES[0], 4), (NODES[1], 4)]);
-    let of_two = NODES[0] + LEAD + HAZARD + STORE * BUFFER;
     vec![
         case("an own hazard cleared and not drained: freed", one, cleared(0), &[(12, 0, 1)], &freed),
         case(
@@ -184,7 +193,7 @@ fn own_stores() -> Vec<Case> {
             two,
             cleared(1),
             &[],
-            &[(of_two, 4), (of_two + NODE, 4)],
+            &[(NODES_OF_TWO, 4), (NODES_OF_TWO + NODE, 4)],
         ),
         case("of two own stores the last: none", one, stored([Kind::Protect, Kind::Clear]), &[(11, 0, 1)], &freed),
         case("of two own stores the last: the node", one, stored([Kind::Clear, Kind::Protect]), &[], &kept),
@@ -204,4 +213,99 @@ fn stray() -> Case {
         answers: vec![(3, 0, 1)],
         after: vec![(NODES[0], 4), (NODES[1], 0)],
     }
+}
+
+/// A case in which every word is looked at afterwards.
+fn whole(name: &'static str, words: Vec<u32>, steps: &[Step], answers: &[(usize, u32, u32)], after: Vec<u32>) -> Case {
+    Case {
+        name,
+        words,
+        steps: steps.to_vec(),
+        answers: answers.to_vec(),
+        after: after.into_iter().enumerate().collect(),
+    }
+}
+
+/// Two processes and five nodes, one in each state, by number; 1, 3 and 4 are of process 1. Process 0 has node 2 validated, node 4 visible,
+/// and a store pending.
+fn busy() -> Vec<u32> {
+    let mut words = fresh(Params::of(&[2, 1, 5, 3, 2, 2]));
+    (words[CLOCK], words[PATH], words[EPOCH]) = (9, 1, 2);
+    (words[CALLS], words[PRESENCE], words[PENDING]) = (1, 1, 1);
+    words[HEAD + LEAD..][..HAZARD].copy_from_slice(&[5, 3, 1]);
+    words[FIRST_STORE..][..STORE].copy_from_slice(&[0, 3, 8]);
+    let nodes = [[0, 0, 0, 0, 0], [1, 1, 61, 0, 0], [2, 0, 62, 0, 0], [3, 1, 63, 0, 0], [4, 1, 64, 7, 2]];
+    words[NODES_OF_TWO..].copy_from_slice(&nodes.concat());
+    words
+}
+
+/// Request 2: what a reinsert is refused with. No word is changed.
+fn refused_reinserts() -> Vec<Case> {
+    let reinsert = |process, node| by(process, Kind::Reinsert, node);
+    let refused = |name, steps: &[Step], numbers: &[u32]| {
+        let answers: Vec<_> = numbers.iter().enumerate().map(|(step, &number)| (step, number, 0)).collect();
+        whole(name, busy(), steps, &answers, busy())
+    };
+    let past_kinds = |process| Step { kind: Kind::LAST as u32 + 1, ..reinsert(process, 3) };
+    let states = [0, 1, 2, 4].map(|node| reinsert(1, node));
+    let of_others = [0, 1, 2, 4].map(|node| reinsert(0, node));
+    vec![
+        refused("the kind past the last gets 4", &[past_kinds(1), past_kinds(2)], &[4, 4]),
+        refused("a reinsert by process N gets 5", &[reinsert(2, 3), reinsert(u32::MAX, 3), reinsert(2, 5)], &[5, 5, 5]),
+        refused("a reinsert of node M gets 7", &[reinsert(1, 5), reinsert(0, 5), reinsert(1, u32::MAX)], &[7, 7, 7]),
+        refused("a reinsert of a Free, Allocated, Reachable or Retired node gets 8", &states, &[8, 8, 8, 8]),
+        refused("and so does one by another process", &of_others, &[8, 8, 8, 8]),
+        refused("a reinsert by another process than removed the node gets 9", &[reinsert(0, 3)], &[9]),
+    ]
+}
+
+/// Request 2: the words that an accepted reinsert leaves.
+fn reinserts() -> Vec<Case> {
+    let unread = Step::new(Kind::Reinsert, 1, u32::MAX, 3, u32::MAX);
+    let mut put_back = busy();
+    put_back[NODES_OF_TWO + 3 * NODE..][..NODE].copy_from_slice(&[2, 0, 63, 0, 0]);
+    let round = |process| [by(process, Kind::Remove, 2), by(process, Kind::Reinsert, 2)];
+    vec![
+        whole("remove and reinsert give back every word", busy(), &[round(1), round(0)].concat(), &[], busy()),
+        whole("a reinsert makes the node Reachable and reads no hazard and no guest", busy(), &[unread], &[], put_back),
+    ]
+}
+
+/// Request 2: what claims, other processes and retires do once a node has been put back.
+fn after_reinserts() -> Vec<Case> {
+    use Kind::*;
+    let two = Params::of(&[2, 1, 1, 3, 1, 1]);
+    let steps = |list: &[(u32, Kind)]| -> Vec<Step> {
+        let published = vec![Step::new(Allocate, 0, 0, 0, 70), of(Publish)];
+        [published, list.iter().map(|&(process, kind)| by(process, kind, 0)).collect()].concat()
+    };
+    let claimed = steps(&[(1, Protect), (1, Check), (0, Remove), (1, Use), (0, Reinsert), (1, Use)]);
+    let late = steps(&[(0, Remove), (1, Protect), (1, Check), (0, Reinsert), (1, Use), (1, Check), (1, Use)]);
+    let passed_on = steps(&[(0, Remove), (0, Reinsert), (1, Remove), (0, Reinsert), (0, Retire)]);
+    let retired = steps(&[(0, Remove), (0, Reinsert), (0, Retire), (0, Remove), (0, Retire)]);
+    let scanned = [retired.clone(), vec![of(Tick); 4], turnover(1, 60)].concat();
+    let managed = [retired, vec![of(Manage); 6]].concat();
+    let node = |words: [u32; NODE]| (NODES_OF_TWO..).zip(words).collect::<Vec<_>>();
+    let mut kept = node([2, 0, 70, 0, 0]);
+    kept.extend([(ASSIGNED + PROCESS, 1), (VALIDATED + PROCESS, 1)]);
+    let free = [0, 1, 2, 3, 4].map(|word| (NODES[0] + word, 0));
+    vec![
+        case("a claim lives through remove and reinsert", two, claimed, &[(5, 0, 70), (7, 0, 70)], &kept),
+        case("a check waits for the reinsert", two, late, &[(4, 11, 0), (6, 12, 0), (8, 0, 70)], &kept),
+        case("after a reinsert another may remove", two, passed_on, &[(5, 9, 0), (6, 9, 0)], &node([3, 1, 70, 0, 0])),
+        case(
+            "reinserted, then retired: freed by a scan",
+            Params::of(&[1, 1, 2, 3, 1, 1]),
+            scanned,
+            &[(4, 8, 0), (14, 0, 1)],
+            &free,
+        ),
+        case(
+            "reinserted, then retired: freed by an epoch",
+            Params::of(&[1, 1, 1, 1, 1, 2]),
+            managed,
+            &[(4, 8, 0), (12, 0, 1)],
+            &free,
+        ),
+    ]
 }

@@ -5,7 +5,7 @@ use crate::library::Calls;
 use crate::report::Report;
 use std::path::Path;
 
-pub const NAMES: [&str; 5] = ["first", "fallback", "kept", "epoch", "mail"];
+pub const NAMES: [&str; 6] = ["first", "fallback", "kept", "epoch", "mail", "repost"];
 
 pub fn all(report: &mut Report, calls: &Calls, folder: &Path) {
     for name in NAMES {

@@ -1,5 +1,5 @@
 //! The comparison is shown to bite: with each mistake switched on in the model, it must find a difference; and the reference must
-//! object to a machine that makes an unsafe one, and follow one that differs only in what it answers.
+//! object to a machine that makes one of those that it can see, and follow one that differs only in what it answers.
 
 use super::{malformed, schedules};
 use crate::arbitrary;
@@ -21,7 +21,7 @@ pub fn all(report: &mut Report, calls: &Calls, seed: u64) {
     for &mistake in Mistake::ALL {
         report.test(&format!("told from the model with {mistake:?}"), || found(calls, mistake, seed));
     }
-    for &mistake in [Mistake::UNSAFE, Mistake::UNBOUNDED].into_iter().flatten() {
+    for &mistake in [Mistake::UNSAFE, Mistake::UNBOUNDED, Mistake::UNFOLLOWED].into_iter().flatten() {
         report.test(&format!("the reference objects to {mistake:?}"), || objected(mistake, seed, 20 * ROUNDS));
     }
     for &mistake in Mistake::UNSEEN {

@@ -46,6 +46,7 @@ pub fn from_arbitrary(calls: &Calls, rules: Rules, random: &mut Random, coverage
 
 fn go_on(mut run: Lockstep, steps: u32, random: &mut Random, coverage: &mut Coverage) -> Result<(), String> {
     let mood = Mood::random(random);
+    coverage.begin();
     for number in 0..steps {
         let step = mood.step(random, &run.model);
         run.step(step, coverage)

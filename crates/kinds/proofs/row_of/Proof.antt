@@ -46,6 +46,9 @@ array-copy-out-result-12 c = search needs
 array-copy-out-result-13 : tie.Need-array-copy-out-result-13
 array-copy-out-result-13 c = search needs
 
+array-copy-out-result-14 : tie.Need-array-copy-out-result-14
+array-copy-out-result-14 c = search needs
+
 returns : tie.Need-returns
 returns c = ap (λ n. rowCode (kindOf n)) (sym (c .before .match .keys1))
 
@@ -86,9 +89,12 @@ returns-13 : tie.Need-returns-13
 returns-13 c = ap (λ n. rowCode (kindOf n)) (sym (c .before .match .keys13))
 
 returns-14 : tie.Need-returns-14
-returns-14 c =
+returns-14 c = ap (λ n. rowCode (kindOf n)) (sym (c .before .match .keys14))
+
+returns-15 : tie.Need-returns-15
+returns-15 c =
     let none = none-of (c .before .args .kind) (search needs) (search needs) (search needs) (search needs) (search needs) (search needs) (search needs)
-    (search needs) (search needs) (search needs) (search needs) (search needs) (search needs) in
+    (search needs) (search needs) (search needs) (search needs) (search needs) (search needs) (search needs) in
     ap rowCode (sym none)
 
 pub row-of-spec : {M : Type 1} → statement M
@@ -108,6 +114,7 @@ row-of-spec =
     array-copy-out-result-11
     array-copy-out-result-12
     array-copy-out-result-13
+    array-copy-out-result-14
     returns
     returns-2
     returns-3
@@ -121,4 +128,5 @@ row-of-spec =
     returns-11
     returns-12
     returns-13
-    returns-14)
+    returns-14
+    returns-15)

@@ -7,8 +7,9 @@ use Rattle.steps.proofs.node_step.Statement.{statement}
 use Rattle.steps.proofs.node_step.Tie as tie
 
 -- what is left for the last arm
-last-kind : (c : tie.At-match-rest) → c .before .before .args .kind ≡ 8
-last-kind c = last-on-node (c .before .before .pre .1) (c .match .rest .0 .0 .1) (c .match .rest .0 .1) (c .match .rest .1)
+last-kind : (c : tie.At-match-rest) → c .before .before .args .kind ≡ 14
+last-kind c =
+    last-on-node (c .before .before .pre .1) (c .match .rest .0 .0 .0 .1) (c .match .rest .0 .0 .1) (c .match .rest .0 .1) (c .match .rest .1)
 
 refusal-requires : tie.Need-refusal-requires
 refusal-requires c κs = search needs
@@ -92,7 +93,7 @@ returns-4 : tie.Need-returns-4
 returns-4 c =
     let start = (c .before .before .before .before .before .before) in
     let a = start .args in
-    let kind = last-kind (c .before .before .before .before) in
+    let kind = (c .before .before .before .before) .match .keys4 in
     let asked = c .before .before .refusal4 .ensures in
     turned-away (start .pre .0) 8 kind (a .p .0) (a .h .0) (a .c .0) (a .guest) asked (c .before .if4 .taken) (c .wide4 .ensures .0) (c .wide4 .ensures .1)
 
@@ -102,17 +103,28 @@ retire-requires c κs = search needs
 pair-requires-4 : tie.Need-pair-requires-4
 pair-requires-4 c κs = search needs
 
+refusal-requires-5 : tie.Need-refusal-requires-5
+refusal-requires-5 c κs = search needs
+
+wide-requires-5 : tie.Need-wide-requires-5
+wide-requires-5 c κs = search needs
+
 same-length-5 : tie.Need-same-length-5
 same-length-5 c = search needs
 
 returns-5 : tie.Need-returns-5
 returns-5 c =
-    let start = (c .before .before .before .before .before .before .before .before .before .before) in
+    let start = (c .before .before .before .before .before .before) in
     let a = start .args in
-    let kind = (c .before .before .before .before .before .before .before .before) .match .keys1 in
-    let asked = c .before .before .before .before .before .before .refusal .ensures in
-    let yes' = c .before .before .before .before .before .if1 .left in
-    let-in (start .pre .0) 1 kind (a .p .0) (a .h .0) (a .c .0) (a .guest) asked yes' (c .before .before .before .allocate .ensures) (c .pair .ensures .0)
+    let kind = last-kind (c .before .before .before .before) in
+    let asked = c .before .before .refusal5 .ensures in
+    turned-away (start .pre .0) 14 kind (a .p .0) (a .h .0) (a .c .0) (a .guest) asked (c .before .if5 .taken) (c .wide5 .ensures .0) (c .wide5 .ensures .1)
+
+reinsert-requires : tie.Need-reinsert-requires
+reinsert-requires c κs = search needs
+
+pair-requires-5 : tie.Need-pair-requires-5
+pair-requires-5 c κs = search needs
 
 same-length-6 : tie.Need-same-length-6
 same-length-6 c = search needs
@@ -121,10 +133,10 @@ returns-6 : tie.Need-returns-6
 returns-6 c =
     let start = (c .before .before .before .before .before .before .before .before .before .before) in
     let a = start .args in
-    let kind = (c .before .before .before .before .before .before .before .before) .match .keys2 in
-    let asked = c .before .before .before .before .before .before .refusal2 .ensures in
-    let yes' = c .before .before .before .before .before .if2 .left in
-    let-in (start .pre .0) 2 kind (a .p .0) (a .h .0) (a .c .0) (a .guest) asked yes' (c .before .before .before .publish .ensures) (c .pair2 .ensures .0)
+    let kind = (c .before .before .before .before .before .before .before .before) .match .keys1 in
+    let asked = c .before .before .before .before .before .before .refusal .ensures in
+    let yes' = c .before .before .before .before .before .if1 .left in
+    let-in (start .pre .0) 1 kind (a .p .0) (a .h .0) (a .c .0) (a .guest) asked yes' (c .before .before .before .allocate .ensures) (c .pair .ensures .0)
 
 same-length-7 : tie.Need-same-length-7
 same-length-7 c = search needs
@@ -133,10 +145,10 @@ returns-7 : tie.Need-returns-7
 returns-7 c =
     let start = (c .before .before .before .before .before .before .before .before .before .before) in
     let a = start .args in
-    let kind = (c .before .before .before .before .before .before .before .before) .match .keys3 in
-    let asked = c .before .before .before .before .before .before .refusal3 .ensures in
-    let yes' = c .before .before .before .before .before .if3 .left in
-    let-in (start .pre .0) 7 kind (a .p .0) (a .h .0) (a .c .0) (a .guest) asked yes' (c .before .before .before .remove .ensures) (c .pair3 .ensures .0)
+    let kind = (c .before .before .before .before .before .before .before .before) .match .keys2 in
+    let asked = c .before .before .before .before .before .before .refusal2 .ensures in
+    let yes' = c .before .before .before .before .before .if2 .left in
+    let-in (start .pre .0) 2 kind (a .p .0) (a .h .0) (a .c .0) (a .guest) asked yes' (c .before .before .before .publish .ensures) (c .pair2 .ensures .0)
 
 same-length-8 : tie.Need-same-length-8
 same-length-8 c = search needs
@@ -145,10 +157,34 @@ returns-8 : tie.Need-returns-8
 returns-8 c =
     let start = (c .before .before .before .before .before .before .before .before .before .before) in
     let a = start .args in
-    let kind = last-kind (c .before .before .before .before .before .before .before .before) in
+    let kind = (c .before .before .before .before .before .before .before .before) .match .keys3 in
+    let asked = c .before .before .before .before .before .before .refusal3 .ensures in
+    let yes' = c .before .before .before .before .before .if3 .left in
+    let-in (start .pre .0) 7 kind (a .p .0) (a .h .0) (a .c .0) (a .guest) asked yes' (c .before .before .before .remove .ensures) (c .pair3 .ensures .0)
+
+same-length-9 : tie.Need-same-length-9
+same-length-9 c = search needs
+
+returns-9 : tie.Need-returns-9
+returns-9 c =
+    let start = (c .before .before .before .before .before .before .before .before .before .before) in
+    let a = start .args in
+    let kind = (c .before .before .before .before .before .before .before .before) .match .keys4 in
     let asked = c .before .before .before .before .before .before .refusal4 .ensures in
     let yes' = c .before .before .before .before .before .if4 .left in
     let-in (start .pre .0) 8 kind (a .p .0) (a .h .0) (a .c .0) (a .guest) asked yes' (c .before .before .before .retire .ensures) (c .pair4 .ensures .0)
+
+same-length-10 : tie.Need-same-length-10
+same-length-10 c = search needs
+
+returns-10 : tie.Need-returns-10
+returns-10 c =
+    let start = (c .before .before .before .before .before .before .before .before .before .before) in
+    let a = start .args in
+    let kind = last-kind (c .before .before .before .before .before .before .before .before) in
+    let asked = c .before .before .before .before .before .before .refusal5 .ensures in
+    let yes' = c .before .before .before .before .before .if5 .left in
+    let-in (start .pre .0) 14 kind (a .p .0) (a .h .0) (a .c .0) (a .guest) asked yes' (c .before .before .before .reinsert .ensures) (c .pair5 .ensures .0)
 
 pub node-step-spec : {M : Type 1} → statement M
 node-step-spec =
@@ -178,11 +214,19 @@ node-step-spec =
     returns-4
     retire-requires
     pair-requires-4
+    refusal-requires-5
+    wide-requires-5
     same-length-5
     returns-5
+    reinsert-requires
+    pair-requires-5
     same-length-6
     returns-6
     same-length-7
     returns-7
     same-length-8
-    returns-8)
+    returns-8
+    same-length-9
+    returns-9
+    same-length-10
+    returns-10)

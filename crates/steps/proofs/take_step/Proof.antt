@@ -13,16 +13,17 @@ domain-step-requires c κs = search needs
 hazard-step-requires : tie.Need-hazard-step-requires
 hazard-step-requires c κs = search needs
 
-node-step-requires : tie.Need-node-step-requires
-node-step-requires c κs =
-    let sound = c .before .before .before .before .before .pre in
-    let low = (c .before .before) .if1 .left in
-    ⊎-elim (λ w. (sound, inl (low, omega (arith, w .taken)))) (λ w. (sound, inr (w .1 .left, omega (arith, w .2 .taken)))) (c .before .if2 .came)
-
 process-step-requires : tie.Need-process-step-requires
 process-step-requires c κs =
     let sound = c .before .before .before .pre in
-    ⊎-elim (λ w. (sound, inr (w .keys1))) (λ w. (sound, inl (w .4 .left, omega (arith, w .5 .taken)))) (c .before .match .came)
+    ⊎-elim (λ w. (sound, inr (w .keys2))) (λ w. (sound, inl (w .4 .left, omega (arith, w .5 .taken)))) (c .before .match .came)
+
+node-step-requires : tie.Need-node-step-requires
+node-step-requires c κs =
+    let sound = c .before .before .before .pre in
+    ⊎-elim (λ w. (sound, inr (inr (w .keys1))))
+    (⊎-elim (λ w. (sound, inl (w .1 .left, omega (arith, w .2 .taken)))) (λ w. (sound, inr (inl (w .3 .left, omega (arith, w .4 .taken))))))
+    (c .before .match .came)
 
 same-length : tie.Need-same-length
 same-length c = search needs
@@ -36,19 +37,20 @@ same-length-2 c = search needs
 returns-2 : tie.Need-returns-2
 returns-2 c = search needs
 
+returns-3 : tie.Need-returns-3
+returns-3 c = no-kind-here (c .before .before .before .pre) _ _ _ _ _ (none-below (c .if1 .taken))
+
+returns-4 : tie.Need-returns-4
+returns-4 c =
+    let rest = c .before .before .before .before .before .match .rest in
+    no-kind-here (c .before .before .before .before .before .before .before .pre) _ _ _ _ _
+    (none-beyond (c .if5 .left) (rest .0 .1) (rest .1) (rest .0 .0 .1))
+
 same-length-3 : tie.Need-same-length-3
 same-length-3 c = search needs
 
-returns-3 : tie.Need-returns-3
-returns-3 c = search needs
-
-returns-4 : tie.Need-returns-4
-returns-4 c = no-kind-here (c .before .before .before .pre) _ _ _ _ _ (none-below (c .if1 .taken))
-
 returns-5 : tie.Need-returns-5
-returns-5 c =
-    let rest = c .before .before .before .before .before .match .rest in
-    no-kind-here (c .before .before .before .before .before .before .before .pre) _ _ _ _ _ (none-beyond (c .if5 .left) (rest .0 .1) (rest .1))
+returns-5 c = search needs
 
 same-length-4 : tie.Need-same-length-4
 same-length-4 c = search needs
@@ -62,15 +64,15 @@ take-step-spec =
     (tie.spec
     domain-step-requires
     hazard-step-requires
-    node-step-requires
     process-step-requires
+    node-step-requires
     same-length
     returns
     same-length-2
     returns-2
-    same-length-3
     returns-3
     returns-4
+    same-length-3
     returns-5
     same-length-4
     returns-6)

@@ -20,9 +20,10 @@ struct Cycle {
 
 use Kind::*;
 
-const CYCLES: [Cycle; 9] = [
+const CYCLES: &[Cycle] = &[
     Cycle { name: "use", before: &[Allocate, Publish, Protect, Check], again: &[Use] },
     Cycle { name: "check", before: &[Allocate, Publish, Protect], again: &[Check] },
+    Cycle { name: "remove, reinsert", before: &[Allocate, Publish], again: &[Remove, Reinsert] },
     Cycle { name: "protect, drain", before: &[], again: &[Protect, Drain] },
     Cycle { name: "protect, flush", before: &[], again: &[Protect, Flush] },
     Cycle { name: "clear, drain", before: &[], again: &[Clear, Drain] },

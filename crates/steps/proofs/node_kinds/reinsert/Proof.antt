@@ -1,0 +1,24 @@
+-- `steps::node_kinds::reinsert` meets its contract: the node is made Reachable. Assumes nothing.
+use mathlib.Core.Path.{refl}
+use Rattle.model.specs.Kinds.{Reinsert}
+use Rattle.questions.proofs.Accepted.{node-in}
+use borrow.Author.Needs.{needs}
+use Rattle.steps.proofs.node_kinds.reinsert.Statement.{statement}
+use Rattle.steps.proofs.node_kinds.reinsert.Tie as tie
+
+make-reachable-requires : tie.Need-make-reachable-requires
+make-reachable-requires c κs =
+    let start = (c .before .before) in
+    let ws = start .args .words .now in
+    let p = start .args .p .0 in
+    let n = start .args .c .0 in
+    (start .pre .0, node-in Reinsert ws p 0 n 0 (start .pre) refl)
+
+same-length : tie.Need-same-length
+same-length c = search needs
+
+returns : tie.Need-returns
+returns c = search needs
+
+pub reinsert-spec : {M : Type 1} → statement M
+reinsert-spec = tie.close (tie.spec make-reachable-requires same-length returns)
