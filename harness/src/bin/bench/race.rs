@@ -3,6 +3,7 @@
 use crate::callers::Caller;
 use harness::layout::{ANSWER, STEP};
 use harness::step::Step;
+use std::cell::RefCell;
 use std::hint::black_box;
 use std::time::Instant;
 
@@ -55,29 +56,35 @@ impl<C: Caller> Work for Steps<'_, C> {
     }
 }
 
-/// One run of a list of steps.
-pub struct Run<'a, C> {
-    caller: &'a C,
-    start: &'a [u32],
+/// The words and the answers of a run. All contenders have the same: where they lie decides up to half of the time of a short step.
+pub struct Room {
     words: Vec<u32>,
-    steps: &'a [u32],
     answers: Vec<u32>,
 }
 
-impl<'a, C> Run<'a, C> {
-    pub fn new(caller: &'a C, start: &'a [u32], steps: &'a [u32]) -> Run<'a, C> {
-        Run { caller, start, words: start.to_vec(), steps, answers: vec![0; steps.len() / STEP * ANSWER] }
+impl Room {
+    pub fn new(start: &[u32], steps: &[u32]) -> RefCell<Room> {
+        RefCell::new(Room { words: start.to_vec(), answers: vec![0; steps.len() / STEP * ANSWER] })
     }
+}
+
+/// One run of a list of steps.
+pub struct Run<'a, C> {
+    pub caller: &'a C,
+    pub start: &'a [u32],
+    pub steps: &'a [u32],
+    pub room: &'a RefCell<Room>,
 }
 
 impl<C: Caller> Work for Run<'_, C> {
     fn restore(&mut self) {
-        self.words.copy_from_slice(self.start);
+        self.room.borrow_mut().words.copy_from_slice(self.start);
     }
 
     fn run(&mut self) {
-        assert!(self.caller.run(&mut self.words, self.steps, &mut self.answers));
-        black_box(&self.answers);
+        let Room { words, answers } = &mut *self.room.borrow_mut();
+        assert!(self.caller.run(words, self.steps, answers));
+        black_box(answers);
     }
 }
 

@@ -2,7 +2,7 @@
 
 use crate::callers::ByModel;
 use crate::goals::{self, Goal};
-use crate::race::{race, Counts, Run, Steps, Work};
+use crate::race::{race, Counts, Room, Run, Steps, Work};
 use crate::table::{Row, Table};
 use harness::arbitrary;
 use harness::library::{PLAIN, QSENSE, TRUSTING};
@@ -94,10 +94,11 @@ fn count(table: &mut Table, name: &str, domains: &[Vec<u32>], goal: Option<Goal>
 /// words once.
 pub fn run(table: &mut Table, name: &str, start: &[u32], schedule: &[(usize, Step)], goal: Option<Goal>) {
     let steps: Vec<u32> = schedule.iter().flat_map(|(_, step)| step.numbers()).collect();
+    let (steps, room) = (&steps, &Room::new(start, &steps));
     let [mut library, mut plain, mut trusting] =
-        [&QSENSE, &PLAIN, &TRUSTING].map(|calls| Run::new(calls, start, &steps));
+        [&QSENSE, &PLAIN, &TRUSTING].map(|caller| Run { caller, start, steps, room });
     let best = race(ROUNDS, schedule.len(), &mut [&mut library, &mut plain, &mut trusting]);
-    let model = model(schedule.len(), &mut Run::new(&ByModel, start, &steps));
+    let model = model(schedule.len(), &mut Run { caller: &ByModel, start, steps, room });
     let row = Row { library: best[0], plain: best[1], trusting: Some(best[2]), model, ..Row::default() };
     table.line(name, row, goal);
 }
