@@ -4,20 +4,22 @@ use mathlib.Core.Bool.{Bool, true, false, not, _&&_, _||_}
 use mathlib.Core.Logic.{_≢_}
 use mathlib.Core.Path.{_≡_, refl, sym, ap, _∙_}
 use native.Mathlib.Omega.{arith}
+use native.Mathlib.Nat.{zero-lt-suc}
 use borrow.Author.Tests.{eq-eqb, ne-eqb, lt-leb, ltb-true, ltb-false}
+use lib.Arith.{lt-of-le-ne}
 use lib.ListN.{List·getD-eq-default}
 use lib.Dec.{leb, ltb, eqb}
 use Rattle.lists.specs.Table.{tableFrom}
 use Rattle.lists.proofs.Table.{table-at}
 use Rattle.model.specs.Kinds.{Kind, kinds, kindCount, kindOf, is, meets, rank, rowOf, Allocate, Publish, Protect}
-use Rattle.model.specs.Kinds.{Check, Use, Clear}
-use Rattle.model.specs.Kinds.{Remove, Retire, Drain, Flush, Tick, Manage, ClearPresence, Reinsert, Unknown}
+use Rattle.model.specs.Kinds.{Check, Use, Clear, Remove, Retire, Drain, Flush, Tick, Manage, ClearPresence}
+use Rattle.model.specs.Kinds.{Reinsert, Unknown}
 use Rattle.kinds.specs.Table.{neededCode, rowCode, guestCode}
 use Rattle.kinds.specs.declared.Row.{Row}
 
 -- more than i and not the next
 past : {i n : ℕ} → i < n → n ≢ suc i → suc i < n
-past h d = omega arith
+past h d = lt-of-le-ne h (λ e. d (sym e))
 
 -- past the last number there is no kind
 pub unknown : (n : ℕ) → kindCount < n → kindOf n ≡ Unknown
@@ -30,11 +32,8 @@ pub none-of : (n : ℕ) → n ≢ 1 → n ≢ 2 → n ≢ 3 → n ≢ 4 → n �
 none-of zero h1 h2 h3 h4 h5 h6 h7 h8 h9 h10 h11 h12 h13 h14 = refl
 none-of (suc n) h1 h2 h3 h4 h5 h6 h7 h8 h9 h10 h11 h12 h13 h14 =
     unknown (suc n)
-    (past (past (past (past (past (past (past (past (past (past (past (past (past (past (some' n)
+    (past (past (past (past (past (past (past (past (past (past (past (past (past (past (zero-lt-suc n)
     h1) h2) h3) h4) h5) h6) h7) h8) h9) h10) h11) h12) h13) h14)
-  where
-    some' : (m : ℕ) → 0 < suc m
-    some' m = omega arith
 
 -- the numbers of the kinds are 1 to the last
 pub known-is : (n : ℕ) → (leb 1 n && leb n kindCount) ≡ not (is (kindOf n) Unknown)

@@ -1,6 +1,6 @@
 -- The reference's image of a domain: it agrees with the domain, and the reference's step at the image comes to the image of the domain
 -- after it. Assumes nothing.
-use Prim.Native.Nat.{ℕ, _-_}
+use Prim.Native.Nat.{ℕ, _-_, _<_}
 use mathlib.Core.Bool.{true, cond}
 use mathlib.Core.List.{List, [], _∷_, map}
 use mathlib.Core.Path.{_≡_, refl, sym, ap, _∙_}
@@ -11,14 +11,14 @@ use Rattle.lists.specs.Tests.{every}
 use Rattle.lists.proofs.Stores.{map-set, map-replicate, map-again}
 use Rattle.model.specs.Params.{Params}
 use Rattle.model.specs.State.{Pending, Hazard, Process, Node, Domain, Step, emptyHazard, noProcess}
-use Rattle.model.specs.State.{freeNode, processOf, hazardOf, setProcess, absent, clearPresence}
+use Rattle.model.specs.State.{freeNode, nodeOf, processOf, hazardOf, setProcess, absent, clearPresence}
 use Rattle.model.specs.Kinds.{Kind, is, Allocate, Publish, Protect, Check, Use, Clear, Remove, Retire}
 use Rattle.model.specs.Kinds.{Drain, Flush, Tick, Manage, ClearPresence, Reinsert, Unknown}
 use Rattle.model.specs.Hazards.{here, target, committing, drained, flushed}
 use Rattle.model.specs.Retire.{marked}
 use Rattle.model.specs.Machine.{act, fresh}
 use Rattle.model.specs.Reference.{Cell, Pointer, Reference, emptyCell, emptyPointer, initial, cellAt}
-use Rattle.model.specs.Reference.{pointerAt, asks, follow, valueOf}
+use Rattle.model.specs.Reference.{pointerAt, process?, node?, state?, owner?, asks, follow, valueOf}
 use Rattle.model.specs.Claims.{Agrees, commandOf}
 use Rattle.model.proofs.Walk.{Asked}
 use Rattle.model.proofs.KindNumbers.{atKind}
@@ -71,26 +71,30 @@ image-agrees a d e s =
 
 -- ---- the reference's questions at the image: all yes, where the step's own are
 
+-- those of a node in state n that the process owns
+yes-owned : (d : Domain) (s : Step) (n : ℕ) → s .process < d .params .processes → s .node < d .params .nodes
+    → nodeOf d (s .node) .state ≡ n → nodeOf d (s .node) .owner ≡ s .process
+    → every (λ b. b)
+    (process? (image d) (commandOf s) ∷ node? (image d) (commandOf s) ∷ state? n (image d) (commandOf s) ∷ owner? (image d) (commandOf s) ∷ []) ≡ true
+yes-owned d s n p c st o = simp (lt-ltb _ _ p, lt-ltb _ _ c, cell-at, eq-eqb _ _ st, eq-eqb _ _ o)
+
 pub yes-as : (k : Kind) (d : Domain) (s : Step) → Asked k d s → every (λ b. b) (asks (image d) (commandOf (atKind k s))) ≡ true
 unfolding asks
 yes-as Allocate d s a = simp (lt-ltb _ _ (a .process refl), lt-ltb _ _ (a .node refl), cell-at, eq-eqb _ _ (a .state 0 refl))
-yes-as Publish d s a =
-    simp (lt-ltb _ _ (a .process refl), lt-ltb _ _ (a .node refl), cell-at, eq-eqb _ _ (a .state 1 refl), eq-eqb _ _ (a .owner refl))
+yes-as Publish d s a = yes-owned d s 1 (a .process refl) (a .node refl) (a .state 1 refl) (a .owner refl)
 yes-as Protect d s a = simp (lt-ltb _ _ (a .process refl), lt-ltb _ _ (a .hazard refl), lt-ltb _ _ (a .node refl))
 yes-as Check d s a =
     simp (lt-ltb _ _ (a .process refl), lt-ltb _ _ (a .hazard refl), row-at, pointer-at, cell-at, ne-eqb _ _ (a .assigned refl), eq-eqb _ _ (a .reachable refl))
 yes-as Use d s a = simp (lt-ltb _ _ (a .process refl), lt-ltb _ _ (a .hazard refl), row-at, pointer-at, eq-eqb _ _ (a .validated refl))
 yes-as Clear d s a = simp (lt-ltb _ _ (a .process refl), lt-ltb _ _ (a .hazard refl))
 yes-as Remove d s a = simp (lt-ltb _ _ (a .process refl), lt-ltb _ _ (a .node refl), cell-at, eq-eqb _ _ (a .state 2 refl))
-yes-as Retire d s a =
-    simp (lt-ltb _ _ (a .process refl), lt-ltb _ _ (a .node refl), cell-at, eq-eqb _ _ (a .state 3 refl), eq-eqb _ _ (a .owner refl))
+yes-as Retire d s a = yes-owned d s 3 (a .process refl) (a .node refl) (a .state 3 refl) (a .owner refl)
 yes-as Drain d s a = refl
 yes-as Flush d s a = refl
 yes-as Tick d s a = refl
 yes-as Manage d s a = refl
 yes-as ClearPresence d s a = refl
-yes-as Reinsert d s a =
-    simp (lt-ltb _ _ (a .process refl), lt-ltb _ _ (a .node refl), cell-at, eq-eqb _ _ (a .state 3 refl), eq-eqb _ _ (a .owner refl))
+yes-as Reinsert d s a = yes-owned d s 3 (a .process refl) (a .node refl) (a .state 3 refl) (a .owner refl)
 yes-as Unknown d s a = refl
 
 -- ---- changes that the image does not show

@@ -1,15 +1,16 @@
 -- A reinsert right after the accepted remove of the same process and node is accepted and gives back the domain. Assumes nothing.
 use Prim.Native.Nat.{ℕ}
-use mathlib.Core.Bool.{false≢true}
+use mathlib.Core.Bool.{true, false, false≢true}
 use mathlib.Core.Path.{_≡_, refl, sym, _∙_, ap}
+use borrow.Author.Tests.{eq-eqb}
 use lib.Seq.{getD-set-same, set-set, set-getD}
 use Rattle.model.specs.State.{Node, Domain, Step, Reachable, freeNode, nodeOf, setNode, withNodes}
 use Rattle.model.specs.WellFormed.{WellFormed}
-use Rattle.model.specs.Kinds.{Needed, Any, Exactly, Remove, Reinsert}
+use Rattle.model.specs.Kinds.{rowOf, Remove, Reinsert}
 use Rattle.model.specs.Retire.{effect}
 use Rattle.model.specs.Machine.{accepted, act, answered, stepAs, step, publishing, removing}
 use Rattle.model.specs.Claims.{RemoveTakenBack}
-use Rattle.model.proofs.Walk.{Asked, by-step, not-refused}
+use Rattle.model.proofs.Walk.{Asked, state-met, by-step, not-refused}
 use Rattle.model.proofs.WellFormed.{node-fits}
 
 -- a Reachable node, removed and put back
@@ -31,23 +32,22 @@ module _ (d : Domain) (s t : Step) (w : WellFormed d) (p : t .process ≡ s .pro
         known = refl;
         process = λ _. rw p (a .process refl);
         acts' = λ _. refl;
-        hazard = λ e. absurd (false≢true e);
+        hazard = none;
         node = λ _. rw c (a .node refl);
-        state = λ n e. ap (λ x. x .state) removed-here ∙ ap needed e;
+        state = λ n e. state-met (rowOf Reinsert .needs) n _ (eq-eqb _ _ (ap (λ x. x .state) removed-here)) e;
         owner = λ _. ap (λ x. x .owner) removed-here ∙ sym p;
-        assigned = λ e. absurd (false≢true e);
-        reachable = λ e. absurd (false≢true e);
-        validated = λ e. absurd (false≢true e);
-        room = λ e. absurd (false≢true e);
-        some' = λ e. absurd (false≢true e);
-        clock = λ e. absurd (false≢true e);
-        young' = λ e. absurd (false≢true e);
-        unassigned' = λ e. absurd (false≢true e);
+        assigned = none;
+        reachable = none;
+        validated = none;
+        room = none;
+        some' = none;
+        clock = none;
+        young' = none;
+        unassigned' = none;
       }
     where
-      needed : Needed → ℕ
-      needed Any = 0
-      needed (Exactly n) = n
+      none : {A : Type 0} → false ≡ true → A
+      none e = absurd (false≢true e)
 
   -- the nodes as they were
   nodes-back : setNode between (t .node) (publishing (nodeOf between (t .node))) ≡ d

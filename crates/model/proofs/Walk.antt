@@ -54,7 +54,7 @@ first-no : (qs : List Question) → every (λ q. q .yes') qs ≡ true → firstN
 first-no [] h = refl
 first-no (q ∷ qs) h = let b = both (q .yes') _ h in rw (b .0) (first-no qs (b .1))
 
-state-met : (n : Needed) (k m : ℕ) → meets n m ≡ true → n ≡ Exactly k → m ≡ k
+pub state-met : (n : Needed) (k m : ℕ) → meets n m ≡ true → n ≡ Exactly k → m ≡ k
 state-met n k m h e = eqb-true m k (rw e at h)
 
 meet-state : (n : Needed) (m : ℕ) → ((k : ℕ) → n ≡ Exactly k → m ≡ k) → meets n m ≡ true

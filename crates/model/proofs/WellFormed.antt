@@ -11,7 +11,7 @@ use Rattle.lists.specs.Tests.{All}
 use Rattle.lists.proofs.Facts.{all-at, all-set, all-snoc, all-replicate, all-sweep, all-map, all-through}
 use Rattle.lists.proofs.Sweeps.{sweep-length}
 use Rattle.model.specs.Params.{Params, InRange, bufferSize, lastClock}
-use Rattle.model.specs.State.{Pending, Hazard, Process, Node, Domain, Step, Fast, Fallback, freeNode}
+use Rattle.model.specs.State.{Pending, Hazard, Process, Node, Domain, Step, Fast, Fallback, freeNode, Retired}
 use Rattle.model.specs.State.{emptyHazard, noProcess, nodeOf, processOf, hazardOf, withPath, withEpoch}
 use Rattle.model.specs.State.{withClock, setNode, setProcess, withStores, withWords, setHazard, nextEpoch}
 use Rattle.model.specs.State.{absent, clearPresence}
@@ -207,11 +207,15 @@ keep-counted w s l k v hk hv =
     let f = process-fits w (s .process) l in
     keep-process w (s .process) _ (fits-words f _ k v (f .words .epoch) hk hv)
 
+-- a node that is not Retired is published or put back
+keep-published : {d : Domain} → WellFormed d → (c : ℕ) → c < d .params .nodes → nodeOf d c .state ≢ Retired
+    → WellFormed (setNode d c (publishing (nodeOf d c)))
+keep-published {d} w c h z =
+    let n = node-fits w c h in keep-node w c (publishing (nodeOf d c)) (omega (arith, w .params, n .unretired z))
+
 pub keep-act : (k : Kind) (d : Domain) (s : Step) → WellFormed d → Asked k d s → WellFormed (act k d s .after)
 keep-act Allocate d s w a = keep-node w (s .node) (allocating s) (omega (arith, a .process refl))
-keep-act Publish d s w a =
-    let n = node-fits w (s .node) (a .node refl) in
-    keep-node w (s .node) (publishing (nodeOf d (s .node))) (omega (arith, w .params, n .unretired (omega (arith, a .state _ refl))))
+keep-act Publish d s w a = keep-published w (s .node) (a .node refl) (omega (arith, a .state _ refl))
 keep-act Protect d s w a =
     keep-process w (s .process) _
     (fits-assigning (process-fits w (s .process) (a .process refl)) (s .hazard) (suc (s .node)) (a .hazard refl) (a .node refl)
@@ -247,9 +251,7 @@ keep-act Manage d s w a =
     (λ _ _ _. keep-quiescent (keep-path called Fast (omega arith)) p l) (λ _ _ _. called) (λ _ _. keep-quiescent called p l)
     (λ _. keep-counted w s l (calledBy d s) (here d s .presence) (mod-lt (here d s .calls + 1) some') (process-fits w p l .words .presence))
 keep-act ClearPresence d s w a = keep-absent w
-keep-act Reinsert d s w a =
-    let n = node-fits w (s .node) (a .node refl) in
-    keep-node w (s .node) (publishing (nodeOf d (s .node))) (omega (arith, w .params, n .unretired (omega (arith, a .state _ refl))))
+keep-act Reinsert d s w a = keep-published w (s .node) (a .node refl) (omega (arith, a .state _ refl))
 keep-act Unknown d s w a = w
 
 pub well-formed-step : StepWellFormed

@@ -9,8 +9,7 @@ use lib.Dec.{leb, ltb, eqb}
 use Rattle.lists.specs.Tests.{every, count, lacks}
 use Rattle.model.specs.Params.{Params, delay}
 use Rattle.model.specs.State.{Pending, Hazard, Process, Node, Domain, Step, Reachable, Removed, Retired, Fast}
-use Rattle.model.specs.State.{Fallback}
-use Rattle.model.specs.State.{nodeOf, processOf, setNode, withNodes, withPath, withStores, setProcess}
+use Rattle.model.specs.State.{Fallback, nodeOf, processOf, setNode, withNodes, withPath, withStores, setProcess}
 use Rattle.model.specs.State.{nextEpoch}
 use Rattle.model.specs.Kinds.{Kind, is, kindOf, Protect, Check, Clear, Retire, Tick, Manage, Reinsert}
 use Rattle.model.specs.Hazards.{here, target}
@@ -21,8 +20,7 @@ use Rattle.model.specs.Machine.{Outcome, act, answered, step, fresh}
 use Rattle.model.specs.Claims.{reachableCount}
 use Rattle.model.specs.Cases.{Answer, gives, refuses, oks, answersBy, runBy, allocate, publish, protect, check}
 use Rattle.model.specs.Cases.{use', clear, remove, retire, flush, tick, manage, reinsert, turnover, shownToAll}
-use Rattle.model.specs.Cases.{stopAndBack}
-use Rattle.model.specs.Cases.{params, stray}
+use Rattle.model.specs.Cases.{stopAndBack, params, stray}
 
 -- ---- machines that are right but for one place
 

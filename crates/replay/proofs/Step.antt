@@ -45,10 +45,7 @@ module _ (n kind refusal : ℕ) where
   count-refused h = rw (ne-eqb refusal 0 h) (omega arith)
 
   pub count-raised : refusal ≡ 0 → raises kind ≡ true → n + 1 ≡ countAfter n kind refusal
-  count-raised e k = rw (e, k, level k) (omega arith)
-    where
-      level : raises kind ≡ true → lowers kind ≡ false
-      level h = ne-eqb kind 7 (λ q. false≢true (sym (ap raises q) ∙ h))
+  count-raised e k = rw (e, k, ne-eqb kind 7 (λ q. false≢true (sym (ap raises q) ∙ k))) (omega arith)
 
   pub count-positive : refusal ≡ 0 → kind ≡ 7 → acceptedAs lowers kind refusal ≤ n → 1 ≤ n
   count-positive e k = rw (e, k) (λ h. h)

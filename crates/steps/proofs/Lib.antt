@@ -1,2 +1,3 @@
 pub mod OneNumber
+pub mod AsRead
 pub mod Groups

@@ -1,18 +1,9 @@
 -- `steps::node_kinds::make_reachable` meets its contract: by the node as it was. Assumes nothing.
-use Prim.Native.Nat.{ℕ}
-use mathlib.Core.List.{List}
-use mathlib.Core.Path.{_≡_, refl}
-use Rattle.model.specs.State.{Node, setNode}
 use Rattle.model.specs.Machine.{publishing}
-use Rattle.layout.specs.Encode.{encode, decode}
+use Rattle.steps.proofs.AsRead.{of-read}
 use borrow.Author.Needs.{needs}
 use Rattle.steps.proofs.node_kinds.make_reachable.Statement.{statement}
 use Rattle.steps.proofs.node_kinds.make_reachable.Tie as tie
-
--- the node that was read, published, is the node of the domain published
-of-read : (ws : List ℕ) (c : ℕ) {x n : Node} → x ≡ n → {ws' : List ℕ} → ws' ≡ encode (setNode (decode ws) c (publishing x))
-    → ws' ≡ encode (setNode (decode ws) c (publishing n))
-of-read ws c e h = rw (← e) h
 
 node-requires : tie.Need-node-requires
 node-requires c κs = search needs
@@ -28,7 +19,7 @@ returns c =
     let start = (c .before .before .before .before .before .before .before) in
     let ws = start .args .words .now in
     let n = start .args .c .0 in
-    of-read ws n (c .before .before .before .before .node .ensures) (c .before .before .set-node .ensures)
+    of-read publishing ws n (c .before .before .before .before .node .ensures) (c .before .before .set-node .ensures)
 
 pub make-reachable-spec : {M : Type 1} → statement M
 make-reachable-spec = tie.close (tie.spec node-requires set-node-requires same-length returns)
