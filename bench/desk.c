@@ -4,10 +4,10 @@
 #include <stdio.h>
 #include <string.h>
 
-enum { GREATEST = 65536, PARAMETERS = 24, STEP = 12, TRAILER = 12 };
+enum { GREATEST = 65536, PARAMETERS = 24, STEP = 12, TRAILER = 12, MOST_WORDS = 2137 };
 
 static uint8_t book[GREATEST + 1];
-static uint32_t words[2121];
+static uint32_t words[MOST_WORDS];
 
 static uint32_t word(const uint8_t *bytes) {
     return bytes[0] | (uint32_t)bytes[1] << 8 | (uint32_t)bytes[2] << 16 | (uint32_t)bytes[3] << 24;

@@ -24,11 +24,12 @@ typedef struct {
     uint32_t value;
 } qsense_answer;
 
-/* How many words a domain takes: 9 + n * (28 + 3 * k) + 5 * m, from 45 to 2121. 0 unless n, k and m are each in range.
+/* How many words a domain takes: 9 + n * (29 + 3 * k) + 5 * m, from 46 to 2137. 0 unless n, k and m are each in range.
  * It reads and changes no words and is never refused. */
 uint32_t qsense_length(uint32_t n, uint32_t k, uint32_t m);
 
-/* Makes a fresh domain in words, whatever they held: its parameters first, in this order, and 0 in every other word.
+/* Makes a fresh domain in words, whatever they held: its parameters first, in this order, 1 in the word present of each process, and 0
+ * in every other word.
  *   n  N, processes, 1 to 16
  *   k  K, hazards of each process, 1 to 8
  *   m  M, nodes, 1 to 256
@@ -55,12 +56,19 @@ qsense_answer qsense_make(uint32_t *words, size_t len, uint32_t n, uint32_t k, u
  *   12  manage (process)                   every Q-th call is a quiescent state; value: nodes freed
  *   13  clear presence                     no process has checked in: all presence words 0
  *   14  reinsert (process, node)           Removed to Reachable, without an owner
+ *   15  leave (process, heir)              the process is absent; its Retired nodes are the heir's, as if retired by it now
+ *   16  join (process)                     the process is present again, at the global epoch
+ * The heir of a leave is a second process, and stands in the field of the node. An absent process takes no step but a join; neither the
+ * global epoch nor the way back to the fast path waits for it. Its hazards and its pending stores still count.
  * A scan frees the Retired nodes of the process that were retired more than T ticks ago and that it sees in no hazard: its own hazards count
  * as the node of the last pending store to them, or else as the visible one, those of others as the visible one.
  * The value is 0 where none is named. Refused at the first no, in this order, with value 0 and no word changed:
  *    3  the words are a well-formed domain
- *    4  the kind is 1 to 14
+ *    4  the kind is 1 to 16
  *    5  the process is below N (all but 11 and 13)
+ *   20  the process is present (all but 11, 13 and 16), absent (16)
+ *   21  the process has no node assigned to a hazard, no pending store, and no Allocated or Removed node (15)
+ *   22  the heir is below N, another process, and present (15)
  *    6  the hazard is below K (3 to 6)
  *    7  the node is below M (1, 2, 3, 7, 8, 14)
  *    8  the node is Free (1), Allocated (2), Reachable (7), Removed (8, 14)
@@ -81,7 +89,7 @@ qsense_answer qsense_step(uint32_t *words, size_t len, uint32_t kind, uint32_t p
 qsense_answer qsense_reachable(const uint32_t *words, size_t len);
 
 /* Takes a list of steps, five words each in the order of qsense_step, and writes an answer for each, two words each: refusal, value.
- * Answers and words are those of qsense_step called for one after another, with its numbers 3 to 17; the words are checked once.
+ * Answers and words are those of qsense_step called for one after another, with its numbers; the words are checked once.
  * It returns true, also for an empty list. Where steps_len is not 5 * j with answers_len = 2 * j for some j, it returns false and
  * writes nothing, neither words nor answers. */
 bool qsense_run(uint32_t *words, size_t len, const uint32_t *steps, size_t steps_len, uint32_t *answers, size_t answers_len);

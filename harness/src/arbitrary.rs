@@ -37,6 +37,7 @@ impl Shape<'_> {
         let lead = Process::lead_limits(self.params).map(|most| self.random.up_to(most));
         Process {
             presence: self.random.chance(70),
+            present: self.random.chance(75),
             hazards: (0..self.params.hazards).map(|_| self.hazard(idle)).collect(),
             buffer: (0..pending).map(|_| self.store()).collect(),
             ..Process::of_lead(self.params, lead)

@@ -6,10 +6,12 @@ use crate::params::Params;
 pub const HEAD: usize = Params::COUNT + 3;
 pub const CLOCK: usize = Params::COUNT;
 pub const PATH: usize = Params::COUNT + 1;
-/// A process before its hazards: local epoch, calls, presence, how many stores are pending.
-pub const LEAD: usize = 4;
+/// A process before its hazards: local epoch, calls, presence, how many stores are pending, present.
+pub const LEAD: usize = 5;
 pub const LEAD_CALLS: usize = 1;
+pub const LEAD_PRESENCE: usize = 2;
 pub const LEAD_STORES: usize = 3;
+pub const LEAD_PRESENT: usize = 4;
 /// Visible node, assigned node, validated.
 pub const HAZARD: usize = 3;
 /// Hazard, node, time.

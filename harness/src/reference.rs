@@ -67,21 +67,10 @@ impl Reference {
     fn accepted(&mut self, step: Step, value: u32) -> Result<(), String> {
         self.asks_ranges(step)?;
         match step.kind {
-            1 => {
-                self.asks(step.node, FREE)?;
-                self.cells[step.node as usize] = Cell { state: ALLOCATED, owner: step.process, guest: step.guest };
-            }
-            2 => {
-                self.asks_owned(step, ALLOCATED)?;
-                self.turn(step.node, REACHABLE, 0);
-            }
+            1 => self.allocated(step)?,
+            2 => self.turned(step, ALLOCATED, REACHABLE)?,
             3 => self.assign(step, step.node + 1),
-            4 => {
-                let assigned = self.pointer(step).assigned;
-                let node = assigned.checked_sub(1).ok_or("check of a hazard with no node")?;
-                self.asks(node, REACHABLE)?;
-                self.pointer(step).validated = 1;
-            }
+            4 => self.checked(step)?,
             5 => self.used(step, value)?,
             6 => self.assign(step, 0),
             7 => {
@@ -89,25 +78,22 @@ impl Reference {
                 self.turn(step.node, REMOVED, step.process);
             }
             8 => {
-                self.asks_owned(step, REMOVED)?;
-                self.turn(step.node, RETIRED, step.process);
+                self.turned(step, REMOVED, RETIRED)?;
                 self.retirements.push(Retirement { process: step.process, clock: self.clock });
             }
             11 => self.clock += 1,
-            14 => {
-                self.asks_owned(step, REMOVED)?;
-                self.turn(step.node, REACHABLE, 0);
-            }
+            14 => self.turned(step, REMOVED, REACHABLE)?,
+            15 => self.hand_over(step.process, step.node),
             _ => {}
         }
         Ok(())
     }
 
-    /// Questions 5 to 7, on steps 1 to 8 and 14.
+    /// Questions 5 to 7, on steps 1 to 8 and 14 to 16.
     fn asks_ranges(&self, step: Step) -> Result<(), String> {
         let reads_hazard = matches!(step.kind, 3..=6);
         let reads_node = matches!(step.kind, 1..=3 | 7 | 8 | 14);
-        let wrong = (matches!(step.kind, 1..=8 | 14) && step.process >= self.params.processes)
+        let wrong = (matches!(step.kind, 1..=8 | 14..=16) && step.process >= self.params.processes)
             || (reads_hazard && step.hazard >= self.params.hazards)
             || (reads_node && step.node >= self.params.nodes);
         match wrong {
@@ -131,9 +117,31 @@ impl Reference {
         }
     }
 
+    fn allocated(&mut self, step: Step) -> Result<(), String> {
+        self.asks(step.node, FREE)?;
+        self.cells[step.node as usize] = Cell { state: ALLOCATED, owner: step.process, guest: step.guest };
+        Ok(())
+    }
+
+    /// A step by which the owner of a node in a state turns it to another; a Reachable one has no owner.
+    fn turned(&mut self, step: Step, from: u32, to: u32) -> Result<(), String> {
+        self.asks_owned(step, from)?;
+        self.turn(step.node, to, if to == REACHABLE { 0 } else { step.process });
+        Ok(())
+    }
+
     fn turn(&mut self, node: u32, state: u32, owner: u32) {
         let cell = &mut self.cells[node as usize];
         (cell.state, cell.owner) = (state, owner);
+    }
+
+    /// A leave: the Retired nodes of a process become those of another, which counts as their retirement by it.
+    fn hand_over(&mut self, leaver: u32, heir: u32) {
+        let handed = self.cells.iter_mut().filter(|cell| cell.state == RETIRED && cell.owner == leaver);
+        for cell in handed {
+            cell.owner = heir;
+            self.retirements.push(Retirement { process: heir, clock: self.clock });
+        }
     }
 
     fn pointer(&mut self, step: Step) -> &mut Pointer {
@@ -142,6 +150,13 @@ impl Reference {
 
     fn assign(&mut self, step: Step, assigned: u32) {
         *self.pointer(step) = Pointer { assigned, validated: 0 };
+    }
+
+    fn checked(&mut self, step: Step) -> Result<(), String> {
+        let node = self.pointer(step).assigned.checked_sub(1).ok_or("check of a hazard with no node")?;
+        self.asks(node, REACHABLE)?;
+        self.pointer(step).validated = 1;
+        Ok(())
     }
 
     fn used(&mut self, step: Step, value: u32) -> Result<(), String> {
@@ -194,7 +209,7 @@ impl Reference {
         Ok(())
     }
 
-    /// At most max(C - 1, N x K + nodes that the process retired at most T ticks ago) of its nodes are unfreed.
+    /// At most max(C - 1, N x K + nodes that the process retired or was handed at most T ticks ago) of its nodes are unfreed.
     fn bounded(&self, process: u32) -> Result<(), String> {
         let unfreed = self.cells.iter().filter(|cell| cell.state == RETIRED && cell.owner == process).count() as u32;
         let since = self.clock.saturating_sub(self.params.visibility_bound);

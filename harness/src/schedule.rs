@@ -26,6 +26,12 @@ impl Mood {
                 weights[kind as usize - 1] = 1;
             }
         }
+        if random.chance(30) {
+            // processes that come and go, and epochs that move on meanwhile
+            for kind in [Kind::Leave, Kind::Join, Kind::Manage] {
+                weights[kind as usize - 1] *= 4;
+            }
+        }
         if random.chance(50) {
             weights[Kind::ClearPresence as usize - 1] = 0;
         }
@@ -71,11 +77,13 @@ impl Mood {
 /// A step of this kind with fields that the domain is likely to accept.
 fn likely(random: &mut Random, domain: &Domain, kind: Kind) -> Step {
     let (params, row) = (domain.params, kind.row());
-    let mut step = Step::new(kind, random.below(params.processes), 0, 0, 0);
+    // now and then a process that may not: it is refused, and a mistake that lets it act shows
+    let any = random.chance(10);
+    let mut step = Step::new(kind, process_where(random, domain, |process| any || may_act(kind, process)), 0, 0, 0);
     if kind.reads(Field::Hazard) {
         step.hazard = random.below(params.hazards);
     }
-    if kind.reads(Field::Node) {
+    if kind.reads_node() {
         step.node = random.below(params.nodes);
     }
     if kind.reads(Field::Guest) {
@@ -94,7 +102,13 @@ fn likely(random: &mut Random, domain: &Domain, kind: Kind) -> Step {
         Kind::Check | Kind::Clear => at_hazard(random, domain, &mut step, |hazard| hazard.assigned.is_some()),
         Kind::Use => at_hazard(random, domain, &mut step, |hazard| hazard.validated),
         Kind::Drain => step.process = process_where(random, domain, |process| !process.buffer.is_empty()),
-        Kind::Manage => step.process = process_where(random, domain, |process| !process.has_assigned()),
+        Kind::Manage => {
+            step.process = process_where(random, domain, |process| may_act(kind, process) && !process.has_assigned());
+        }
+        Kind::Leave => {
+            step.process = leaver(random, domain);
+            step.node = heir(random, domain, step.process);
+        }
         _ => {}
     }
     step
@@ -114,6 +128,26 @@ fn process_where(random: &mut Random, domain: &Domain, fits: impl Fn(&Process) -
     place_where(random, domain.params.processes, |id| fits(domain.process(id)))
 }
 
+/// Whether question 20 is answered yes.
+fn may_act(kind: Kind, process: &Process) -> bool {
+    process.present == (kind != Kind::Join)
+}
+
+/// A process that may leave, one with Retired nodes in half of the cases.
+fn leaver(random: &mut Random, domain: &Domain) -> u32 {
+    let any = random.chance(50);
+    let has_retired = |id| domain.nodes.iter().any(|node| node.is_retired() && node.owner() == Some(id));
+    place_where(random, domain.params.processes, |id| {
+        domain.process(id).present && domain.ties(id) == [false; 4] && (any || has_retired(id))
+    })
+}
+
+/// Mostly another process that is present.
+fn heir(random: &mut Random, domain: &Domain, leaver: u32) -> u32 {
+    let any = random.chance(25);
+    place_where(random, domain.params.processes, |id| any || domain.process(id).present && id != leaver)
+}
+
 fn at_hazard(random: &mut Random, domain: &Domain, step: &mut Step, fits: impl Fn(&Hazard) -> bool) {
     step.process = process_where(random, domain, |process| process.hazards.iter().any(&fits));
     step.hazard = place_where(random, domain.params.hazards, |id| fits(domain.hazard(step.process, id)));
@@ -127,11 +161,15 @@ fn anything(random: &mut Random, model: &Model, kind: Kind) -> Step {
         1 => u32::MAX,
         _ => random.below(limit),
     };
-    let (process, hazard, node) = (field(params.processes), field(params.hazards), field(params.nodes));
+    let nodes = if kind.row().heir { params.processes } else { params.nodes };
+    let (process, hazard, node) = (field(params.processes), field(params.hazards), field(nodes));
     let mut step = Step::new(kind, process, hazard, node, random.word());
     if random.chance(8) {
         let next = Kind::LAST as u32 + 1;
         step.kind = *random.of(&[0, next, next + 5, 255, 256 + kind as u32, u32::MAX]);
+    }
+    if kind == Kind::Leave && random.chance(50) {
+        step.process = leaver(random, &model.domain);
     }
     step
 }

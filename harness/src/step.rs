@@ -93,18 +93,19 @@ pub enum State {
 
 use State::*;
 
-/// What a kind reads, the state of its node that it needs, whether the process must own that node, and how often a random schedule has
-/// the kind.
+/// What a kind reads, the state of its node that it needs, whether the process must own that node, whether a second process stands in the
+/// place of the node, and how often a random schedule has the kind.
 pub struct Row {
     reads: &'static [Field],
     pub needs: Option<State>,
     pub owns: bool,
+    pub heir: bool,
     pub weight: u32,
 }
 
 /// The parts of a row that only some kinds have.
 const fn row(reads: &'static [Field], weight: u32) -> Row {
-    Row { reads, needs: None, owns: false, weight }
+    Row { reads, needs: None, owns: false, heir: false, weight }
 }
 
 impl Row {
@@ -114,6 +115,10 @@ impl Row {
 
     const fn owns(self) -> Row {
         Row { owns: true, ..self }
+    }
+
+    const fn heir(self) -> Row {
+        Row { heir: true, ..self }
     }
 }
 
@@ -136,7 +141,7 @@ macro_rules! kinds {
     };
 }
 
-// The table: a kind's number and name, what it reads, its weight, and what it needs of its node.
+// The table: a kind's number and name, what it reads, its weight, what it needs of its node, and whether that is a process.
 kinds! {
     1 Allocate [Process Node Guest] 8 needs(Free);
     2 Publish [Process Node] 8 needs(Allocated) owns();
@@ -155,6 +160,8 @@ kinds! {
     13 ClearPresence [] 1;
     /// the paper's repost
     14 Reinsert [Process Node] 3 needs(Removed) owns();
+    15 Leave [Process Node] 2 heir();
+    16 Join [Process] 3;
 }
 
 impl Kind {
@@ -167,5 +174,10 @@ impl Kind {
 
     pub fn reads(self, field: Field) -> bool {
         self.row().reads.contains(&field)
+    }
+
+    /// Whether the node of a step is a node to this kind.
+    pub fn reads_node(self) -> bool {
+        self.reads(Field::Node) && !self.row().heir
     }
 }

@@ -6,7 +6,8 @@ use native.Mathlib.Omega.{arith}
 use native.Mathlib.Numerals.{add-one}
 use lib.ListN.{length}
 use Rattle.lists.proofs.Mapped.{mappedTo, mapped-turn, mapped-all}
-use Rattle.model.specs.State.{Process, Domain, noProcess, processOf, withProcesses, setProcess, withWords, absent}
+use Rattle.model.specs.State.{Process, Domain, noProcess, processOf, withProcesses, setProcess, withWords}
+use Rattle.model.specs.State.{withoutPresence}
 use Rattle.model.specs.State.{clearPresence}
 use Rattle.model.specs.WellFormed.{WellFormed}
 use Rattle.model.proofs.WellFormed.{process-fits, fits-words, keep-process}
@@ -19,18 +20,18 @@ use Rattle.layout.specs.declared.Lead.{Lead}
 use Rattle.layout.proofs.Sound.{decoded, sound-at}
 use Rattle.domain.proofs.ReadParams.{processes-length, processes-word}
 
--- d with the first p processes absent
-abbrev absentTo : Domain → ℕ → Domain
-absentTo d p = withProcesses d (mappedTo absent p (d .processes))
+-- d with the presence words of the first p processes 0
+abbrev clearedTo : Domain → ℕ → Domain
+clearedTo d p = withProcesses d (mappedTo withoutPresence p (d .processes))
 
--- the words ws₀ are ws now: the first p of n processes are absent
+-- the words ws₀ are ws now: of the first p of n processes the presence words are 0
 pub record Clearing (ws₀ ws : List ℕ) (n p : ℕ) : Type 0 where
   pub sound : Sound ws
   pub many : n ≡ paramsIn ws .processes
   pub low : p ≤ n
   pub long : length ws ≡ length ws₀
   pub whole : length (decode ws₀ .processes) ≡ n
-  pub domain : decode ws ≡ absentTo (decode ws₀) p
+  pub domain : decode ws ≡ clearedTo (decode ws₀) p
 
 pub starts : {ws : List ℕ} {a : Params} → Sound ws → paramsValue a ≡ decode ws .params → Clearing ws ws (a .processes) 0
 starts s e =
@@ -50,19 +51,19 @@ module _ {ws₀ ws : List ℕ} {n p : ℕ} (h : Clearing ws₀ ws n p) where
     unfolding decodeBy
     inside = omega (arith, h .many)
 
-    written : ws′ ≡ encode (setProcess (decode ws) p (absent (processOf (decode ws) p)))
+    written : ws′ ≡ encode (setProcess (decode ws) p (withoutPresence (processOf (decode ws) p)))
     written = u ∙ (λ t. encode (setProcess (decode ws) p (withWords (processOf (decode ws) p) (e t .epoch) (e t .calls) 0)))
 
-    fits : WellFormed (setProcess (decode ws) p (absent (processOf (decode ws) p)))
+    fits : WellFormed (setProcess (decode ws) p (withoutPresence (processOf (decode ws) p)))
     fits =
         let f = process-fits (h .sound .domain) p inside in
         keep-process (h .sound .domain) p _ (fits-words f _ _ 0 (f .words .epoch) (f .words .calls) (omega arith))
 
-    domain-more : decode ws′ ≡ absentTo (decode ws₀) (p + 1)
+    domain-more : decode ws′ ≡ clearedTo (decode ws₀) (p + 1)
     domain-more =
         decoded written fits
-        ∙ (ap (λ (d : Domain). setProcess d p (absent (processOf d p))) (h .domain)
-        ∙ rw add-one (ap (λ (ps : List Process). withProcesses (decode ws₀) ps) (mapped-turn absent (decode ws₀ .processes) p noProcess (rw (h .whole) l))))
+        ∙ (ap (λ (d : Domain). setProcess d p (withoutPresence (processOf d p))) (h .domain)
+        ∙ rw add-one (ap (λ (ps : List Process). withProcesses (decode ws₀) ps) (mapped-turn withoutPresence (decode ws₀ .processes) p noProcess (rw (h .whole) l))))
 
     pub turn : Clearing ws₀ ws′ n (p + 1)
     unfolding decodeBy
@@ -78,4 +79,4 @@ module _ {ws₀ ws : List ℕ} {n p : ℕ} (h : Clearing ws₀ ws n p) where
 
   pub ends : n ≤ p → ws ≡ encode (clearPresence (decode ws₀))
   ends l =
-      h .sound .whole ∙ ap encode (h .domain ∙ ap (λ (ps : List Process). withProcesses (decode ws₀) ps) (mapped-all absent (decode ws₀ .processes) p (rw (h .whole) l)))
+      h .sound .whole ∙ ap encode (h .domain ∙ ap (λ (ps : List Process). withProcesses (decode ws₀) ps) (mapped-all withoutPresence (decode ws₀ .processes) p (rw (h .whole) l)))

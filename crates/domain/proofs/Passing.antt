@@ -1,10 +1,11 @@
 -- A loop over the processes of a domain that keeps whether all so far pass a test. Assumes nothing.
 use Prim.Native.Nat.{ℕ, _+_, _<_, _≤_}
-use mathlib.Core.Bool.{Bool, true, _&&_}
+use mathlib.Core.Bool.{Bool, true, false, _&&_, false≢true}
 use mathlib.Core.List.{List}
-use mathlib.Core.Path.{_≡_}
+use mathlib.Core.Path.{_≡_, refl, sym, _∙_}
 use native.Mathlib.Omega.{arith}
 use Rattle.lists.specs.Tests.{every}
+use Rattle.lists.proofs.Facts.{every-in}
 use Rattle.lists.proofs.Tested.{Tested, tested-none, tested-more, tested-all}
 use Rattle.model.specs.State.{Process, noProcess, processOf}
 use Rattle.layout.specs.Encode.{decode, paramsIn}
@@ -39,6 +40,15 @@ module _ {f : Process → Bool} {ws : List ℕ} {n p : ℕ} {ok : Bool} (h : Pas
         low = omega arith;
         tested = tested-more noProcess (h .tested) (omega (arith, processes-length (h .sound))) e;
       }
+
+  -- a process that does not pass
+  pub fails : p < n → f (processOf (decode ws) p) ≡ false → false ≡ every f (decode ws .processes)
+  fails l e = by (every f (decode ws .processes)) refl
+    where
+      by : (b : Bool) → every f (decode ws .processes) ≡ b → false ≡ b
+      by false q = refl
+      by true q =
+          absurd (false≢true (sym e ∙ every-in f (decode ws .processes) p noProcess q (omega (arith, processes-length (h .sound), h .many))))
 
   pub ends : n ≤ p → ok ≡ every f (decode ws .processes)
   ends l = tested-all (h .tested) (omega (arith, processes-length (h .sound)))

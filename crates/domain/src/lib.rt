@@ -13,11 +13,13 @@ use layout::words::most;
 ghost use mathlib.Core.Path.{_≡_};
 ghost use Prim.Native.Nat.{_+_, _-_, _<_, _≤_};
 ghost use lib.ListN.{length};
-ghost use Rattle.lists.specs.Tests.{count};
+ghost use mathlib.Core.Bool.{not};
+ghost use Rattle.lists.specs.Tests.{every, count};
 ghost use Rattle.model.specs.Params.{delay};
 ghost use Rattle.model.specs.State.{nodeOf, setNode, withClock, withPath, withEpoch};
 ghost use Rattle.model.specs.Retire.{retiredBy, freeing};
 ghost use Rattle.model.specs.Epochs.{expired};
+ghost use Rattle.model.specs.Leave.{underWay, handOver};
 ghost use Rattle.model.specs.Claims.{reachableCount};
 ghost use Rattle.layout.specs.Shape.{nodesStart};
 ghost use Rattle.layout.specs.Encode.{shape, decode, paramsIn};
@@ -149,6 +151,28 @@ pub fn retired_count(words: &[u32], p: ProcessId) -> u32
     let m = words[head_word::NODES];
     let a = nodes_at(words);
     nodes::counts::retired_count(&words[a..], m, p)
+}
+
+// Has process p no node under way?
+pub fn none_under_way(words: &[u32], p: ProcessId) -> bool
+    requires { ⌜ Sound (now words) ⌝ }
+    ensures { λ r. ⌜ r ≡ every (λ n. not (underWay (p .0) n)) (decode (now (words .entry)) .nodes) ⌝ }
+{
+    let m = words[head_word::NODES];
+    let a = nodes_at(words);
+    nodes::counts::none_under_way(&words[a..], m, p)
+}
+
+// Each Retired node of process p becomes one of process q, which retires it now, at its local epoch.
+pub fn hand_over(words: &mut [u32], p: ProcessId, q: ProcessId)
+    requires { ⌜ Sound (now words) × (q .0 < paramsIn (now words) .processes) ⌝ }
+    ensures { λ _. ⌜ now (words .exit) ≡ changed (λ d. handOver d (p .0) (q .0)) (now (words .entry)) ⌝ }
+{
+    let m = words[head_word::NODES];
+    let time = words[head_word::CLOCK];
+    let epoch = process::lead(words, q).epoch;
+    let a = nodes_at(words);
+    nodes::handing::hand_over(&mut words[a..], m, p, q, time, epoch);
 }
 
 // ---- sweeps

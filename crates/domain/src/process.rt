@@ -9,7 +9,7 @@ use layout::words::lead_word;
 use stretch::Place;
 ghost use mathlib.Core.Path.{_≡_};
 ghost use Prim.Native.Nat.{_<_};
-ghost use Rattle.model.specs.State.{hazardOf, withWords};
+ghost use Rattle.model.specs.State.{hazardOf, withWords, withPresent};
 ghost use Rattle.model.specs.Hazards.{validating, unassigned};
 ghost use Rattle.layout.specs.Shape.{leadOf};
 ghost use Rattle.layout.specs.Encode.{paramsIn};
@@ -34,7 +34,7 @@ pub fn place_of(words: &[u32], p: ProcessId) -> Place
     }
 }
 
-// The epoch, calls, presence and number of pending stores of process p.
+// The words of process p before its hazards.
 pub fn lead(words: &[u32], p: ProcessId) -> Lead
     requires { ⌜ Sound (now words) × (p .0 < paramsIn (now words) .processes) ⌝ }
     ensures { λ r. ⌜ leadValue r ≡ leadOf (processIn (now (words .entry)) (p .0)) ⌝ }
@@ -74,6 +74,24 @@ pub fn set_lead(words: &mut [u32], p: ProcessId, epoch: u32, calls: u32, presenc
     let from = at.from;
     let to = at.to;
     stretch::set_lead(&mut words[from..to], at, epoch, calls, presence);
+}
+
+// Writes these and whether process p is present.
+pub fn set_words(
+    words: &mut [u32],
+    p: ProcessId,
+    epoch: u32,
+    calls: u32,
+    presence: u32,
+    present: u32,
+)
+    requires { ⌜ Sound (now words) × (p .0 < paramsIn (now words) .processes) ⌝ }
+    ensures { λ _. ⌜ now (words .exit) ≡ processChanged (p .0) (λ x. withPresent (withWords x epoch calls presence) present) (now (words .entry)) ⌝ }
+{
+    let at = place_of(words, p);
+    let from = at.from;
+    let to = at.to;
+    stretch::set_words(&mut words[from..to], at, epoch, calls, presence, present);
 }
 
 // Validates hazard h of process p.

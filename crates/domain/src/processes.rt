@@ -26,40 +26,42 @@ pub fn all_young(words: &[u32]) -> bool
     ok
 }
 
-// Do all local epochs equal the global one?
+// Do the local epochs of all processes that are present equal the global one?
 pub fn caught_up(words: &[u32]) -> bool
     requires { ⌜ Sound (now words) ⌝ }
     ensures { λ r. ⌜ r ≡ caughtUp (decode (now (words .entry))) ⌝ }
 {
     let n = crate::bounds(words).processes;
     let epoch = crate::epoch(words);
-    let mut ok = true;
     let mut q: u32 = 0;
     while q < n {
         let lead = crate::process::lead(words, ProcessId(q));
-        ok = ok & (lead.epoch == epoch);
+        if (lead.present == 1) & (lead.epoch != epoch) {
+            return false;
+        }
         q += 1;
     }
-    ok
+    true
 }
 
-// Have all processes checked in: is every presence word 1?
+// Have all processes that are present checked in: is each of their presence words 1?
 pub fn all_checked_in(words: &[u32]) -> bool
     requires { ⌜ Sound (now words) ⌝ }
     ensures { λ r. ⌜ r ≡ allCheckedIn (decode (now (words .entry))) ⌝ }
 {
     let n = crate::bounds(words).processes;
-    let mut ok = true;
     let mut p: u32 = 0;
     while p < n {
         let lead = crate::process::lead(words, ProcessId(p));
-        ok = ok & (lead.presence == 1);
+        if (lead.present == 1) & (lead.presence != 1) {
+            return false;
+        }
         p += 1;
     }
-    ok
+    true
 }
 
-// All presence words become 0.
+// All presence words become 0, of absent processes too.
 pub fn clear_presence(words: &mut [u32])
     requires { ⌜ Sound (now words) ⌝ }
     ensures { λ _. ⌜ now (words .exit) ≡ changed clearPresence (now (words .entry)) ⌝ }

@@ -7,7 +7,7 @@ ghost use Rattle.model.specs.Kinds.{kindOf, is, Unknown};
 ghost use Rattle.kinds.specs.Table.{rowCode, guestCode};
 
 // How many kinds there are: 1 to COUNT.
-pub const COUNT: usize = 14;
+pub const COUNT: usize = 16;
 
 // The kind that reads a guest, those that raise or lower the reachable count, and those that a question beside the table is about.
 pub const ALLOCATE: u32 = 1;
@@ -31,6 +31,10 @@ pub const TICK: u32 = 11;
 pub const MANAGE: u32 = 12;
 
 pub const REINSERT: u32 = 14;
+
+pub const LEAVE: u32 = 15;
+
+pub const JOIN: u32 = 16;
 
 // What a field of a step is to a kind.
 pub const UNREAD: u8 = 0;
@@ -65,6 +69,8 @@ const ROWS: [Row; COUNT] = [
     Row(PROCESS, UNREAD, UNREAD, UNREAD, ANY, false), // manage
     Row(UNREAD, UNREAD, UNREAD, UNREAD, ANY, false), // clear presence
     Row(PROCESS, UNREAD, NODE, UNREAD, states::REMOVED, true), // reinsert
+    Row(PROCESS, UNREAD, PROCESS, UNREAD, ANY, false), // leave
+    Row(PROCESS, UNREAD, UNREAD, UNREAD, ANY, false), // join
 ];
 
 // Question 4: is there such a kind?
@@ -94,6 +100,8 @@ pub fn row_of(kind: u32) -> Row
         12 => ROWS[11],
         13 => ROWS[12],
         14 => ROWS[13],
+        15 => ROWS[14],
+        16 => ROWS[15],
         _ => Row(UNREAD, UNREAD, UNREAD, UNREAD, ANY, false),
     }
 }

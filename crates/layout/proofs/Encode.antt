@@ -6,7 +6,7 @@ use mathlib.Core.List.{List, [], _++_, append-assoc, append-nil}
 use mathlib.Core.Path.{_≡_, refl, sym, _∙_, ap}
 use native.Mathlib.Omega.{arith}
 use lib.ListN.{length, take, drop, replicate, length-append, length-drop, length-replicate, drop-of-length-le}
-use lib.Seq.{drop-drop, take-at, drop-at, take-append-add, drop-append-add, take-append-seam, drop-append-seam}
+use lib.Seq.{drop-drop, drop-at, take-append-add, drop-append-add, take-append-seam, drop-append-seam}
 use lib.Seq.{getD-drop, getD-append-add}
 use borrow.Rule.Slice.PartMut.{putMid}
 use Rattle.lists.specs.Rows.{rows, unrows}
@@ -17,7 +17,8 @@ use Rattle.lists.proofs.Rows.{codec-get, codec-length, codec-unrows}
 use Rattle.model.specs.Params.{Params, bufferSize, hazardWidth, storeWidth, bufferWidth}
 use Rattle.model.specs.State.{Process, Node, Domain, noProcess, processOf, withNodes, setProcess}
 use Rattle.model.specs.WellFormed.{NodeFits, ProcessFits, WellFormed}
-use Rattle.layout.specs.Shape.{Shape, Head, word, headOf, leadOf, processWidth, processStart, nodesStart, wordCountBy}
+use Rattle.layout.specs.Shape.{Shape, Head, word, headOf, leadOf, processWidth, processStart, nodesStart}
+use Rattle.layout.specs.Shape.{wordCountBy}
 use Rattle.layout.specs.Codecs.{hazardCodec, pendingCodec}
 use Rattle.layout.specs.Encode.{bufferWords, processWordsBy, encodeBy, processBy, decodeBy}
 
@@ -98,7 +99,7 @@ module _ (sh : Shape) where
         let b : unrows (pendingCodec .get) storeWidth (length (x .buffer)) (drop (sh .leadWidth + k * hazardWidth) (processWordsBy sh x)) ≡ x .buffer =
         rw buffer-start (codec-unrows pendingCodec (x .buffer) (replicate (bufferWidth - length (x .buffer) * storeWidth) 0) (λ _. refl)) in
         rw (codec-get (sh .lead) (leadOf x) _ h)
-        (λ t. record { epoch = x .epoch; calls = x .calls; presence = x .presence; buffer = b t; hazards = hs t })
+        (λ t. record { epoch = x .epoch; calls = x .calls; presence = x .presence; present = x .present; buffer = b t; hazards = hs t })
 
   -- ---- the head
 

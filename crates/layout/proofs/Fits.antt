@@ -2,12 +2,10 @@
 use Prim.Native.Nat.{ℕ, _+_, _<_, _≤_}
 use mathlib.Core.Bool.{Bool, true, not, _&&_}
 use mathlib.Core.List.{List}
-use mathlib.Core.Path.{_≡_, refl, ap}
-use mathlib.Core.Logic.{_≢_}
+use mathlib.Core.Path.{_≡_, ap}
 use lib.Dec.{leb, ltb, eqb}
 use borrow.Author.Tests.{leb-true, ltb-true, ltb-false, eqb-true, eqb-false, not-true, le-leb, lt-ltb, le-ltb, eq-eqb}
 use borrow.Author.Tests.{ne-eqb}
-use Rattle.lists.specs.Tests.{implies}
 use Rattle.lists.proofs.Bools.{by-cond, both, implied, imply}
 use Rattle.model.specs.Params.{Params, bufferSize}
 use Rattle.model.specs.WellFormed.{HazardFits, PendingFits}
@@ -24,6 +22,7 @@ pub record LeadFits (q : ℕ) (l : Lead) : Type 0 where
   pub calls : l .calls < q
   pub presence : l .presence ≤ 1
   pub stores : l .stores ≤ bufferSize
+  pub present : l .present ≤ 1
 
 pub lead-facts : (q : ℕ) (l : Lead) → leadFits q l ≡ true → LeadFits q l
 unfolding leadFits
@@ -31,17 +30,20 @@ lead-facts q l e =
     let e₀ = both (leb (l .epoch) 2) _ e in
     let e₁ = both (ltb (l .calls) q) _ (e₀ .1) in
     let e₂ = both (leb (l .presence) 1) _ (e₁ .1) in
+    let e₃ = both (leb (l .stores) bufferSize) _ (e₂ .1) in
     record {
       epoch = leb-true _ _ (e₀ .0);
       calls = ltb-true _ _ (e₁ .0);
       presence = leb-true _ _ (e₂ .0);
-      stores = leb-true _ _ (e₂ .1);
+      stores = leb-true _ _ (e₃ .0);
+      present = leb-true _ _ (e₃ .1);
     }
 
 pub lead-test : (q : ℕ) (l : Lead) → LeadFits q l → leadFits q l ≡ true
 unfolding leadFits
 lead-test q l f =
-    pass (le-leb _ _ (f .epoch)) (pass (lt-ltb _ _ (f .calls)) (pass (le-leb _ _ (f .presence)) (le-leb _ _ (f .stores))))
+    pass (le-leb _ _ (f .epoch))
+    (pass (lt-ltb _ _ (f .calls)) (pass (le-leb _ _ (f .presence)) (pass (le-leb _ _ (f .stores)) (le-leb _ _ (f .present)))))
 
 module _ (p : Params) (ws : List ℕ) (a : ℕ) where
   pub hazard-facts : hazardFits (p .nodes) ws a ≡ true → HazardFits p (hazardFrom ws a)

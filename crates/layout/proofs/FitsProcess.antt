@@ -20,7 +20,8 @@ use Rattle.layout.specs.Words.{leadFits, hazardFits, storeFits, processF
 use Rattle.layout.proofs.Encode.{past-stores}
 use Rattle.layout.proofs.Whole.{RowFits}
 use Rattle.layout.proofs.Places.{pendingFrom, part-word, lead-place, hazard-place, store-place}
-use Rattle.layout.proofs.Fits.{pass, LeadFits, lead-facts, lead-test, hazard-facts, hazard-test, store-facts, store-zeros, store-test}
+use Rattle.layout.proofs.Fits.{pass, LeadFits, lead-facts, lead-test, hazard-facts, hazard-test, store-facts}
+use Rattle.layout.proofs.Fits.{store-zeros, store-test}
 
 -- 0, 1 or 2
 below-three : {C : Type 0} (m : ℕ) → m < 3 → (m ≡ 0 → C) → (m ≡ 1 → C) → (m ≡ 2 → C) → C
@@ -104,7 +105,7 @@ module _ (sh : Shape) (p : Params) (clock : ℕ) (ws : List ℕ) (a : ℕ) where
       let l = lead-facts (p .quiescenceThreshold) lead (e₀ .0) in
       let t : (e : ℕ) → e < bufferSize → storeTest e ≡ true = λ e l. all-at storeTest bufferSize e (e₁ .1) l in (
         record {
-          words = rw (lead-place sh ws k a) (record { epoch = l .epoch; calls = l .calls; presence = l .presence });
+          words = rw (lead-place sh ws k a) (record { epoch = l .epoch; calls = l .calls; presence = l .presence; present = l .present });
           stores = stores-fit (l .stores) t (λ h l. all-at hazardTest k h (e₁ .0) l);
         },
         row-fits i (l .stores) t,
@@ -149,7 +150,13 @@ module _ (sh : Shape) (p : Params) (clock : ℕ) (ws : List ℕ) (a : ℕ) where
     unfolding processBy
     lead-passes =
         let g : LeadFits (p .quiescenceThreshold) (sh .lead .get row) =
-        record { epoch = f .words .epoch; calls = f .words .calls; presence = f .words .presence; stores = rw (row-stores, ← count) (f .stores .room) } in
+        record {
+          epoch = f .words .epoch;
+          calls = f .words .calls;
+          presence = f .words .presence;
+          stores = rw (row-stores, ← count) (f .stores .room);
+          present = f .words .present;
+        } in
         subst (λ l. LeadFits (p .quiescenceThreshold) l) (lead-place sh ws k a) g
 
     pub process-test : processFitsBy sh p clock ws a ≡ true

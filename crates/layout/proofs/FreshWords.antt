@@ -1,18 +1,20 @@
--- The words of a fresh domain: its six parameters, and 0 elsewhere. Assumes nothing.
-use Prim.Native.Nat.{ℕ, _+_, _*_}
-use mathlib.Core.List.{List, [], _∷_, _++_}
+-- The words of a fresh domain: its six parameters, 1 for each process that it is present, and 0 elsewhere. Assumes nothing.
+use Prim.Native.Nat.{ℕ, zero, suc, _+_, _*_}
+use mathlib.Core.List.{List, [], _∷_, _++_, append-assoc}
 use mathlib.Core.Path.{_≡_, refl, sym, _∙_, ap}
 use native.Mathlib.Omega.{arith}
-use lib.ListN.{replicate, replicate-append-replicate}
+use lib.ListN.{length, set, replicate, replicate-append-replicate, length-replicate}
 use lib.Seq.{sets}
 use Rattle.lists.specs.Rows.{rows}
-use Rattle.lists.proofs.Rows.{rows-zeros}
+use Rattle.lists.proofs.Rows.{rows-zeros, repeat-length, rows-repeat, set-past}
 use Rattle.model.specs.Params.{Params, headWidth, leadWidth, hazardWidth, bufferWidth, nodeWidth, wordCount}
 use Rattle.model.specs.State.{Process, freeNode, emptyHazard}
 use Rattle.model.specs.Machine.{fresh}
-use Rattle.layout.specs.Shape.{processWidth}
-use Rattle.layout.specs.Codecs.{hazardWords, nodeWords}
+use Rattle.layout.specs.Shape.{processWidth, processStart}
+use Rattle.layout.specs.Codecs.{hazardWords, nodeWords, presentWord}
 use Rattle.layout.specs.Encode.{shape, processWords, processWordsBy, encode, encodeBy}
+use Rattle.layout.specs.Fresh.{withPresent}
+use Rattle.layout.proofs.Encode.{process-width}
 
 -- N, K, M, T, Q, C
 abbrev pub paramWords : Params → List ℕ
@@ -20,28 +22,55 @@ paramWords a =
     a .processes ∷ a .hazards ∷ a .nodes ∷ a .visibilityBound ∷ a .quiescenceThreshold ∷ a .fallbackThreshold ∷ []
 
 abbrev freshProcess : ℕ → Process
-freshProcess k = record { epoch = 0; calls = 0; presence = 0; buffer = []; hazards = replicate k emptyHazard }
+freshProcess k = record { epoch = 0; calls = 0; presence = 0; present = 1; buffer = []; hazards = replicate k emptyHazard }
 
-fresh-process : (k : ℕ) → processWords (freshProcess k) ≡ replicate (processWidth shape k) 0
+fresh-width : (k : ℕ) → length (processWords (freshProcess k)) ≡ processWidth shape k
+fresh-width k = process-width shape (freshProcess k) k (length-replicate k emptyHazard) (omega arith)
+
+-- zeros for a process and r more, with its word `present` set
+fresh-process : (k r : ℕ) → set (replicate (processWidth shape k + r) 0) presentWord 1 ≡ processWords (freshProcess k) ++ replicate r 0
 unfolding processWordsBy
-fresh-process k =
-    let e : processWidth shape k ≡ leadWidth + (k * hazardWidth + bufferWidth) = omega arith in
-    rw (rows-zeros hazardWords hazardWidth k emptyHazard refl, replicate-append-replicate {A = ℕ} (k * hazardWidth) bufferWidth 0, e)
-    (replicate-append-replicate leadWidth (k * hazardWidth + bufferWidth) 0)
+fresh-process k r =
+    let m : ℕ = k * hazardWidth + (bufferWidth + r) in
+    let e : processWidth shape k + r ≡ leadWidth + m = omega arith in
+    let split : replicate {A = ℕ} (processWidth shape k + r) 0 ≡ replicate leadWidth 0 ++ replicate m 0 =
+    rw e (sym (replicate-append-replicate {A = ℕ} leadWidth m 0)) in
+    let zeros : rows hazardWords (replicate k emptyHazard) ++ replicate bufferWidth 0 ≡ replicate (k * hazardWidth + bufferWidth) 0 =
+    rw (rows-zeros hazardWords hazardWidth k emptyHazard refl) (replicate-append-replicate {A = ℕ} (k * hazardWidth) bufferWidth 0) in
+    let sum : k * hazardWidth + bufferWidth + r ≡ m = omega arith in
+    let rest : (rows hazardWords (replicate k emptyHazard) ++ replicate bufferWidth 0) ++ replicate r 0 ≡ replicate m 0 =
+    rw zeros (replicate-append-replicate {A = ℕ} (k * hazardWidth + bufferWidth) r 0 ∙ ap (λ (n : ℕ). replicate {A = ℕ} n 0) sum) in
+    ap (λ (z : List ℕ). set z presentWord 1) split
+    ∙ ap (λ (z : List ℕ). 0 ∷ 0 ∷ 0 ∷ 0 ∷ 1 ∷ z) (sym rest)
 
--- the words after the head
-after-head : (n k m : ℕ) → rows processWords (replicate n (freshProcess k)) ++ rows nodeWords (replicate m freeNode)
-    ≡ replicate (n * processWidth shape k + m * nodeWidth) 0
-after-head n k m =
-    rw (rows-zeros processWords (processWidth shape k) n (freshProcess k) (fresh-process k), rows-zeros nodeWords nodeWidth m freeNode refl)
-    (replicate-append-replicate (n * processWidth shape k) (m * nodeWidth) 0)
+module _ (k : ℕ) (hs : List ℕ) (hw : length hs ≡ headWidth) where
+  -- a head and zeros, with the first n processes present
+  all-present : (n r : ℕ) → withPresent k n (hs ++ replicate (n * processWidth shape k + r) 0)
+      ≡ hs ++ (rows processWords (replicate n (freshProcess k)) ++ replicate r 0)
+  all-present zero r = let e : 0 * processWidth shape k + r ≡ r = omega arith in rw e
+  all-present (suc n) r =
+      let w : ℕ = processWidth shape k in
+      let ps : List ℕ = rows processWords (replicate n (freshProcess k)) in
+      let e : suc n * w + r ≡ n * w + (w + r) = omega arith in
+      rw (e, all-present n (w + r))
+      (set-past hs _ (processStart shape k n + presentWord) (n * w + presentWord) 1 (omega arith)
+      ∙ ap (λ (z : List ℕ). hs ++ z)
+      (set-past ps _ (n * w + presentWord) presentWord 1 (omega (arith, repeat-length processWords (freshProcess k) w n (fresh-width k)))
+      ∙ ap (λ (z : List ℕ). ps ++ z) (fresh-process k r)
+      ∙ sym (append-assoc ps (processWords (freshProcess k)) (replicate r 0))
+      ∙ ap (λ (z : List ℕ). z ++ replicate r 0) (sym (rows-repeat processWords (freshProcess k) n))))
 
--- n zeros, and then the parameters stored into the first six
-pub fresh-words : (a : Params) (n : ℕ) → n ≡ wordCount a → sets (replicate n 0) 0 (paramWords a) ≡ encode (fresh a)
+-- n zeros, then the parameters stored into the first six, and the processes present
+pub fresh-words : (a : Params) (n : ℕ) → n ≡ wordCount a
+    → withPresent (a .hazards) (a .processes) (sets (replicate n 0) 0 (paramWords a)) ≡ encode (fresh a)
 unfolding encodeBy fresh
 fresh-words a n e =
-    let m : ℕ = a .processes * processWidth shape (a .hazards) + a .nodes * nodeWidth in
-    let k : n ≡ headWidth + m = omega arith in
-    let zeros : replicate {A = ℕ} n 0 ≡ replicate headWidth 0 ++ replicate m 0 = rw k (sym (replicate-append-replicate {A = ℕ} headWidth m 0)) in
-    ap (λ (z : List ℕ). sets z 0 (paramWords a)) zeros
-    ∙ ap (λ (r : List ℕ). paramWords a ++ (0 ∷ 0 ∷ 0 ∷ r)) (sym (after-head (a .processes) (a .hazards) (a .nodes)))
+    let k : ℕ = a .hazards in
+    let m : ℕ = a .processes * processWidth shape k + a .nodes * nodeWidth in
+    let hs : List ℕ = paramWords a ++ (0 ∷ 0 ∷ 0 ∷ []) in
+    let long : n ≡ headWidth + m = omega arith in
+    let zeros : replicate {A = ℕ} n 0 ≡ replicate headWidth 0 ++ replicate m 0 = rw long (sym (replicate-append-replicate {A = ℕ} headWidth m 0)) in
+    ap (λ (z : List ℕ). withPresent k (a .processes) (sets z 0 (paramWords a))) zeros
+    ∙ all-present k hs refl (a .processes) (a .nodes * nodeWidth)
+    ∙ ap (λ (z : List ℕ). hs ++ (rows processWords (replicate (a .processes) (freshProcess k)) ++ z))
+    (sym (rows-zeros nodeWords nodeWidth (a .nodes) freeNode refl))

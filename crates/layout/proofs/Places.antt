@@ -32,7 +32,13 @@ nodeFrom ws a =
 
 abbrev pub leadFrom : List ℕ → ℕ → Lead
 leadFrom ws a =
-    record { epoch = word ws (a + 0); calls = word ws (a + 1); presence = word ws (a + 2); stores = word ws (a + 3) }
+    record {
+      epoch = word ws (a + 0);
+      calls = word ws (a + 1);
+      presence = word ws (a + 2);
+      stores = word ws (a + 3);
+      present = word ws (a + 4);
+    }
 
 pub lead-from : (ws : List ℕ) (a : ℕ) → leadAt (drop a ws) ≡ leadFrom ws a
 lead-from ws a =
@@ -41,6 +47,7 @@ lead-from ws a =
       calls = getD-drop a ws 1 0 t;
       presence = getD-drop a ws 2 0 t;
       stores = getD-drop a ws 3 0 t;
+      present = getD-drop a ws 4 0 t;
     }
 
 -- a word of a part

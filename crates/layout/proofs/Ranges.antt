@@ -1,5 +1,6 @@
 -- What the tests of the parameters say. Assumes nothing.
-use Prim.Native.Nat.{ℕ}
+use Prim.Native.Nat.{ℕ, _≤_}
+use native.Mathlib.Omega.{arith}
 use mathlib.Core.Bool.{true}
 use mathlib.Core.Path.{_≡_}
 use Rattle.lists.proofs.Bools.{both}
@@ -7,7 +8,9 @@ use Rattle.model.specs.Params.{Params, Between, InRange, mostProcesses, mostHaz
 use Rattle.model.specs.Params.{mostRetired, wordCount}
 use Rattle.layout.specs.Words.{between}
 use Rattle.layout.proofs.Checked.{within}
-use Rattle.layout.specs.Ranges.{sizesInRange, inRange, lengthFor}
+use Rattle.layout.specs.Encode.{shape}
+use Rattle.layout.proofs.Room.{rows-small}
+use Rattle.layout.specs.Ranges.{sizesInRange, inRange, lengthFor, mostWords}
 
 sizes-of : (a : Params) → inRange a ≡ true → sizesInRange (a .processes) (a .hazards) (a .nodes) ≡ true
 unfolding inRange
@@ -44,3 +47,7 @@ in-range a e =
 pub length-in-range : (a : Params) → inRange a ≡ true → lengthFor (a .processes) (a .hazards) (a .nodes) ≡ wordCount a
 unfolding lengthFor
 length-in-range a e = rw (sizes-of a e)
+
+pub words-most : (a : Params) → InRange a → wordCount a ≤ mostWords
+words-most a r =
+    let rows = rows-small shape (a .processes) (a .hazards) (r .processes .1) (r .hazards .1) in omega (arith, rows, r .nodes)

@@ -38,11 +38,15 @@ headAt r =
 abbrev pub storesWord : ℕ
 storesWord = 3
 
+-- and the one that says whether its process is present
+abbrev pub presentWord : ℕ
+presentWord = 4
+
 abbrev pub leadWords : Lead → List ℕ
-leadWords l = l .epoch ∷ l .calls ∷ l .presence ∷ l .stores ∷ []
+leadWords l = l .epoch ∷ l .calls ∷ l .presence ∷ l .stores ∷ l .present ∷ []
 
 abbrev pub leadAt : List ℕ → Lead
-leadAt r = record { epoch = word r 0; calls = word r 1; presence = word r 2; stores = word r 3 }
+leadAt r = record { epoch = word r 0; calls = word r 1; presence = word r 2; stores = word r 3; present = word r 4 }
 
 abbrev pub hazardWords : Hazard → List ℕ
 hazardWords h = h .visible ∷ h .assigned ∷ h .validated ∷ []
@@ -106,6 +110,7 @@ lead-front r = λ t. record {
   calls = first leadWidth r 1 (omega arith) t;
   presence = first leadWidth r 2 (omega arith) t;
   stores = first leadWidth r 3 (omega arith) t;
+  present = first leadWidth r 4 (omega arith) t;
 }
 
 pub hazard-front : (r : List ℕ) → hazardAt (take hazardWidth r) ≡ hazardAt r

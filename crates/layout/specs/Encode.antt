@@ -6,7 +6,7 @@ use Rattle.lists.specs.Rows.{rows, unrows}
 use Rattle.model.specs.Params as P
 use Rattle.model.specs.Params.{Params, hazardWidth, storeWidth, bufferWidth}
 use Rattle.model.specs.State.{Pending, Process, Domain}
-use Rattle.layout.specs.Shape.{Shape, headOf, leadOf, storesPlace, processWidth, nodesStart}
+use Rattle.layout.specs.Shape.{Shape, headOf, leadOf, processWidth, nodesStart}
 use Rattle.layout.specs.Codecs.{headCodec, leadCodec, hazardCodec, pendingCodec}
 use Rattle.layout.specs.Nodes.{nodesCodec}
 
@@ -29,6 +29,7 @@ module _ (sh : Shape) where
         epoch = l .epoch;
         calls = l .calls;
         presence = l .presence;
+        present = l .present;
         buffer = unrows (pendingCodec .get) storeWidth (l .stores) (drop (sh .leadWidth + k * hazardWidth) r);
         hazards = unrows (hazardCodec .get) hazardWidth k (drop (sh .leadWidth) r);
       }

@@ -21,6 +21,10 @@ abbrev pub sized : ℕ → ℕ → ℕ → Params
 sized n k m =
     record { processes = n; hazards = k; nodes = m; visibilityBound = 1; quiescenceThreshold = 1; fallbackThreshold = 1 }
 
+-- the words of a domain with the most of each
+abbrev pub mostWords : ℕ
+mostWords = wordCount (sized mostProcesses mostHazards mostNodes)
+
 -- the words that a domain of n processes, k hazards a process and m nodes takes; 0 unless each is in its range
 unfoldable pub lengthFor : ℕ → ℕ → ℕ → ℕ
 lengthFor n k m = cond (sizesInRange n k m) (wordCount (sized n k m)) 0

@@ -34,12 +34,13 @@ pub record Lead : Type 0 where
   pub presence : ℕ
   -- how many stores are pending (mail length)
   pub stores : ℕ
+  pub present : ℕ
 
 abbrev pub headOf : Domain → Head
 headOf d = record { params = d .params; clock = d .clock; path = d .path; epoch = d .epoch }
 
 abbrev pub leadOf : Process → Lead
-leadOf x = record { epoch = x .epoch; calls = x .calls; presence = x .presence; stores = length (x .buffer) }
+leadOf x = record { epoch = x .epoch; calls = x .calls; presence = x .presence; stores = length (x .buffer); present = x .present }
 
 -- ---- the nodes' part, from where the nodes start to the end: a codec of the whole list of nodes
 

@@ -19,7 +19,7 @@ paramsValue a =
     }
 
 abbrev pub leadValue : Lead → L.Lead
-leadValue l = record { epoch = l .epoch; calls = l .calls; presence = l .presence; stores = l .stores }
+leadValue l = record { epoch = l .epoch; calls = l .calls; presence = l .presence; stores = l .stores; present = l .present }
 
 abbrev pub hazardValue : Hazard → S.Hazard
 hazardValue h = record { visible = h .visible; assigned = h .assigned; validated = h .validated }

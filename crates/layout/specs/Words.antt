@@ -29,9 +29,11 @@ headFits h =
     && (leb (h .path) Fallback
     && leb (h .epoch) 2)))))))
 
--- local epoch, calls, presence, stores, with the quiescence threshold q
+-- local epoch, calls, presence, stores, present, with the quiescence threshold q
 unfoldable pub leadFits : ℕ → Lead → Bool
-leadFits q l = leb (l .epoch) 2 && (ltb (l .calls) q && (leb (l .presence) 1 && leb (l .stores) bufferSize))
+leadFits q l =
+    leb (l .epoch) 2
+    && (ltb (l .calls) q && (leb (l .presence) 1 && (leb (l .stores) bufferSize && leb (l .present) 1)))
 
 -- a hazard at place a: visible and assigned node at most M, a validation of 1 only where one is assigned
 unfoldable pub hazardFits : ℕ → List ℕ → ℕ → Bool

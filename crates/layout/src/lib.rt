@@ -32,12 +32,13 @@ pub struct Params {
     pub fallback: u32,
 }
 
-// The words of a process before its hazards; stores: how many are pending.
+// The words of a process before its hazards; stores: how many are pending; present: 1 where it takes part, 0 where it is absent.
 pub struct Lead {
     pub epoch: u32,
     pub calls: u32,
     pub presence: u32,
     pub stores: u32,
+    pub present: u32,
 }
 
 pub struct Hazard {

@@ -25,7 +25,7 @@ pub mod head_word {
     pub const WIDTH: usize = 9;
 }
 
-// The lead of a process, before its hazards: local epoch, calls, presence, how many stores are pending.
+// The lead of a process, before its hazards: local epoch, calls, presence, how many stores are pending, whether it is present.
 pub mod lead_word {
     pub const EPOCH: usize = 0;
 
@@ -35,7 +35,9 @@ pub mod lead_word {
 
     pub const STORES: usize = 3;
 
-    pub const WIDTH: usize = 4;
+    pub const PRESENT: usize = 4;
+
+    pub const WIDTH: usize = 5;
 }
 
 // A hazard: visible and assigned node, validated.
@@ -146,8 +148,13 @@ pub mod most {
 
     pub const BUFFER: usize = 24;
 
-    // The words of a domain of 16 processes, 8 hazards a process and 256 nodes: 9 + 16 × 52 + 5 × 256.
-    pub const WORDS: usize = 2121;
+    // The words of a domain with the most of each.
+    pub const WORDS: usize = crate::words::head_word::WIDTH
+        + (PROCESSES as usize)
+            * (crate::words::lead_word::WIDTH
+                + BUFFER
+                + crate::words::hazard_word::WIDTH * (HAZARDS as usize))
+        + crate::words::node_word::WIDTH * (NODES as usize);
 
     // A process's own view of its hazards: a number for each.
     pub const VIEW: usize = 8;

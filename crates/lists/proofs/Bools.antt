@@ -1,6 +1,6 @@
 -- Case analysis on a test, and what a compound test says of its parts. Assumes nothing.
-use mathlib.Core.Bool.{Bool, true, false, not, _&&_, cond, false≢true}
-use mathlib.Core.Path.{_≡_, refl}
+use mathlib.Core.Bool.{Bool, true, false, not, _&&_, _||_, cond, false≢true}
+use mathlib.Core.Path.{_≡_, refl, sym}
 use Rattle.lists.specs.Tests.{implies}
 
 -- what is to be shown of a choice is shown of both sides
@@ -19,6 +19,22 @@ implied false b h e = absurd (false≢true e)
 pub imply : (a b : Bool) → (a ≡ true → b ≡ true) → implies a b ≡ true
 imply true b f = f refl
 imply false b f = refl
+
+-- a test that is made only where the first holds, as code says it
+pub or-implies : (a b : Bool) → (not a || b) ≡ implies a b
+or-implies true b = refl
+or-implies false b = refl
+
+-- where the first holds and the second does not, and elsewhere
+pub unmet : (a b : Bool) → (a && not b) ≡ true → implies a b ≡ false
+unmet true true h = absurd (false≢true h)
+unmet true false h = refl
+unmet false b h = absurd (false≢true h)
+
+pub met : (a b : Bool) → (a && not b) ≡ false → implies a b ≡ true
+met true true h = refl
+met true false h = absurd (false≢true (sym h))
+met false b h = refl
 
 -- a test that holds only where another does leaves nothing without that
 pub not-alone : (a b : Bool) → (b ≡ true → a ≡ true) → (not a && b) ≡ false

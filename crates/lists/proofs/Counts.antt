@@ -1,7 +1,7 @@
 -- Counts: of a weaker test, against the length, of an image, of a store, and place by place. Assumes nothing.
 use Prim.Native.Nat.{ℕ, zero, suc, _+_, _<_, _≤_}
 use mathlib.Core.Bool.{Bool, true, false, cond, false≢true}
-use mathlib.Core.List.{List, [], _∷_, map}
+use mathlib.Core.List.{List, [], _∷_, _++_, map}
 use mathlib.Core.Path.{_≡_, refl, sym, _∙_, ap, subst}
 use native.Mathlib.Omega.{arith}
 use native.Mathlib.Nat.{suc-add, add-suc, add-zero}
@@ -14,6 +14,10 @@ one-le true true m n f h = omega arith
 one-le true false m n f h = absurd (false≢true (f refl))
 one-le false true m n f h = omega arith
 one-le false false m n f h = omega arith
+
+one-most : (b : Bool) → cond b 1 0 ≤ 1
+one-most true = omega arith
+one-most false = omega arith
 
 pub count-mono : {A : Type 0} (f g : A → Bool) (l : List A) → ((a : A) → f a ≡ true → g a ≡ true) → count f l ≤ count g l
 count-mono f g [] h = omega arith
@@ -31,9 +35,39 @@ pub count-map : {A B : Type 0} (f : B → Bool) (g : A → B) (l : List A) → c
 count-map f g [] = refl
 count-map f g (x ∷ xs) = ap (λ n. cond (f (g x)) 1 0 + n) (count-map f g xs)
 
+-- a change that the test does not see
+pub count-kept : {A : Type 0} (f : A → Bool) (g : A → A) (l : List A) → ((a : A) → f (g a) ≡ f a) → count f (map g l) ≡ count f l
+count-kept f g [] h = refl
+count-kept f g (x ∷ xs) h = rw (h x, count-kept f g xs h)
+
+-- a change of those alone that pass h
+pub count-changed : {A : Type 0} (f h : A → Bool) (g : A → A) (l : List A) → ((a : A) → h a ≡ false → g a ≡ a)
+    → count f (map g l) ≤ count h l + count f l
+count-changed f h g [] same = omega arith
+count-changed f h g (x ∷ xs) same = by (h x) (same x) (count-changed f h g xs same)
+  where
+    by : (b : Bool) → (b ≡ false → g x ≡ x) → count f (map g xs) ≤ count h xs + count f xs
+        → cond (f (g x)) 1 0 + count f (map g xs) ≤ cond b 1 0 + count h xs + (cond (f x) 1 0 + count f xs)
+    by true e k = let one = one-most (f (g x)) in omega arith
+    by false e k = rw (e refl) (omega arith)
+
 pub count-replicate : {A : Type 0} (f : A → Bool) (n : ℕ) (a : A) → f a ≡ false → count f (replicate n a) ≡ 0
 count-replicate f zero a h = refl
 count-replicate f (suc n) a h = rw h (omega (arith, count-replicate f n a h))
+
+-- n times a, and then l
+pub count-repeat : {A : Type 0} (f : A → Bool) (n : ℕ) (a : A) (l : List A) → count f (replicate n a ++ l) ≡ cond (f a) n 0 + count f l
+count-repeat f zero a l = by (f a)
+  where
+    by : (b : Bool) → count f l ≡ cond b 0 0 + count f l
+    by true = omega arith
+    by false = omega arith
+count-repeat f (suc n) a l = by (f a) (count-repeat f n a l)
+  where
+    by : (b : Bool) → count f (replicate n a ++ l) ≡ cond b n 0 + count f l
+        → cond b 1 0 + count f (replicate n a ++ l) ≡ cond b (suc n) 0 + count f l
+    by true h = omega arith
+    by false h = omega arith
 
 -- a store: the new element counts for the old
 pub count-swap : {A : Type 0} (f : A → Bool) (l : List A) (i : ℕ) (a d : A) → i < length l

@@ -2,7 +2,7 @@
 -- Assumes nothing.
 use Prim.Native.Nat.{ℕ, zero, suc, _+_, _*_, _≤_, _<_}
 use mathlib.Core.Bool.{true}
-use mathlib.Core.List.{List, [], _∷_, _++_, append-assoc}
+use mathlib.Core.List.{List, [], _∷_, _++_, append-assoc, append-nil}
 use mathlib.Core.Path.{_≡_, refl, ap, sym, _∙_}
 use native.Mathlib.Omega.{arith}
 use native.Mathlib.Nat.{zero-mul, suc-mul, zero-add, suc-add, mul-le-mul-right, not-suc-le-zero}
@@ -90,6 +90,22 @@ rows-zeros put w zero x e = rw zero-mul
 rows-zeros put w (suc n) x e =
     let k : suc n * w ≡ w + n * w = omega (arith, suc-mul n w) in
     rw (k, e, rows-zeros put w n x e) (replicate-append-replicate w (n * w) 0)
+
+-- the same row n times: how long, and one more
+module _ {X : Type 0} (put : X → List ℕ) (x : X) where
+  pub repeat-length : (w n : ℕ) → length (put x) ≡ w → length (rows put (replicate n x)) ≡ n * w
+  repeat-length w zero e = rw zero-mul
+  repeat-length w (suc n) e = simp length-append (omega (arith, suc-mul n w, repeat-length w n e))
+
+  pub rows-repeat : (n : ℕ) → rows put (replicate (suc n) x) ≡ rows put (replicate n x) ++ put x
+  rows-repeat zero = append-nil (put x)
+  rows-repeat (suc n) = ap (λ (r : List ℕ). put x ++ r) (rows-repeat n) ∙ sym (append-assoc (put x) (rows put (replicate n x)) (put x))
+
+-- a store past the first part of a list
+pub set-past : (xs ys : List ℕ) (i j v : ℕ) → i ≡ length xs + j → set (xs ++ ys) i v ≡ xs ++ set ys j v
+set-past [] ys i j v e = ap (λ (n : ℕ). set ys n v) (omega arith)
+set-past (x ∷ xs) ys zero j v e = absurd (omega arith)
+set-past (x ∷ xs) ys (suc i) j v e = ap (λ (r : List ℕ). x ∷ r) (set-past xs ys i j v (omega arith))
 
 -- ---- rows read off a list
 

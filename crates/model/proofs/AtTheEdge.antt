@@ -2,12 +2,13 @@
 use mathlib.Core.Path.{refl}
 use Rattle.lists.specs.Tests.{All}
 use Rattle.model.specs.Machine.{step, fresh}
+use Rattle.model.specs.Reference.{initial, follow}
 use Rattle.model.specs.Edge.{Holds, cases}
 use Rattle.model.proofs.Each.{_then_}
 
 -- a line a case, in the list's order
 pub edge : All Holds cases
-unfolding step fresh
+unfolding step fresh initial follow
 edge =
     refl
     then refl
@@ -34,4 +35,16 @@ edge =
     then (refl, refl)
     then (refl, refl)
     then (refl, refl, refl)
+    then (refl, refl)
+    then (refl, refl)
+    then (refl, refl)
+    then (refl, refl)
+    then (refl, refl)
+    then (refl, refl)
+    then (refl, refl)
+    then (refl, refl)
+    then (refl, refl)
+    then (refl, refl)
+    then (refl, refl)
+    then (refl, refl)
     then tt

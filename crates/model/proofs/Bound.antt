@@ -1,6 +1,7 @@
 -- The second half of demand 3, for one step: what has been retired bounds what is Retired. Assumes nothing.
 use Prim.Native.Nat.{ℕ, suc, _+_, _-_, _*_, _<_, _≤_}
 use mathlib.Core.Bool.{Bool, true, false, not, _&&_, cond, true≢false, false≢true}
+use mathlib.Core.List.{map}
 use mathlib.Core.Path.{_≡_, refl, sym, _∙_, ap, subst}
 use mathlib.Core.Logic.{_≢_}
 use native.Mathlib.Omega.{arith}
@@ -9,22 +10,25 @@ use borrow.Author.Tests.{ne-eqb, ltb-false, leb-false, le-leb, not-true}
 use lib.ListN.{set}
 use lib.Dec.{leb}
 use Rattle.lists.specs.Tests.{count, lacks}
-use Rattle.lists.proofs.Bools.{both}
-use Rattle.lists.proofs.Counts.{count-mono, count-set, count-set-one, count-replicate}
+use Rattle.lists.proofs.Bools.{both, by-cond}
+use Rattle.lists.proofs.Counts.{count-mono, count-map, count-changed, count-set, count-set-one, count-replicate}
+use Rattle.lists.proofs.Counts.{count-repeat}
 use Rattle.lists.proofs.Sweeps.{count-sweep, count-left, sweep-within}
 use Rattle.lists.proofs.Pigeonhole.{named-places}
 use Rattle.model.specs.Params.{Params, delay}
-use Rattle.model.specs.State.{Node, Domain, Step, Fast, freeNode, nodeOf, withPath}
+use Rattle.model.specs.State.{Node, Domain, Step, Fast, freeNode, nodeOf, processOf, withPath}
 use Rattle.model.specs.Kinds.{Kind, kindOf, numberOf, Allocate, Publish, Protect, Check, Use, Clear}
-use Rattle.model.specs.Kinds.{Remove, Retire, Drain, Flush, Tick, Manage, ClearPresence, Reinsert, Unknown}
+use Rattle.model.specs.Kinds.{Remove, Retire, Drain, Flush, Tick, Manage, ClearPresence, Reinsert, Leave, Join}
+use Rattle.model.specs.Kinds.{Unknown}
 use Rattle.model.specs.Hazards.{here}
 use Rattle.model.specs.Retire.{retiredBy, aged, visibleTo, due, dueIn, freeing, scan, retiring, marked}
 use Rattle.model.specs.Retire.{overfull, fallBack, reclaim}
 use Rattle.model.specs.Epochs.{expired, quiescent, counted, manage}
+use Rattle.model.specs.Leave.{handed, leave}
 use Rattle.model.specs.Machine.{Outcome, refused, accepted, act, step, fresh}
 use Rattle.model.specs.Reference.{Reference}
-use Rattle.model.specs.Claims.{History, noHistory, noted, recorded, retiredSince, bound}
-use Rattle.model.proofs.Walk.{Asked, by-step, by-reclaim, by-quiescent, by-manage}
+use Rattle.model.specs.Claims.{Retirement, History, noHistory, noted, recorded, unfreed, retiredSince, bound}
+use Rattle.model.proofs.Walk.{Asked, acting, by-step, by-reclaim, by-quiescent, by-manage}
 use Rattle.model.proofs.KindNumbers.{atKind, at-kind}
 use Rattle.model.proofs.Invariant.{Inv}
 use Rattle.model.proofs.Unclaimed.{visible-count, marked-ok}
@@ -115,6 +119,44 @@ module _ (a : Params) (d : Domain) (q : Reference) (s : Step) (h : History) (f :
       by p t false e =
           omega (arith, count-set (retiredByAfter p t) (d .nodes) (s .node) n freeNode (λ x. absurd (false≢true (sym e ∙ sym (alike p t) ∙ x))), f .logged p t)
 
+-- ---- a leave
+
+module _ (a : Params) (d : Domain) (q : Reference) (s : Step) (h : History) (f : Fits a d h) where
+  -- what a leave notes for each node handed over
+  abbrev passing : Retirement
+  passing = record { process = s .node; clock = h .ticks }
+
+  abbrev handing : Node → Node
+  handing = handed (s .process) (s .node) (d .clock) (processOf d (s .node) .epoch)
+
+  -- a node that is the leaver's counts as it is noted, and every other as before
+  noted-as : (p t : ℕ) (n : Node) → retiredSince p t passing ≡ false → retiredByAfter p t (handing n) ≡ true → retiredByAfter p t n ≡ true
+  noted-as p t n e =
+      by-cond (λ (x : Node). retiredByAfter p t x ≡ true → retiredByAfter p t n ≡ true) (retiredBy (s .process) n)
+      (λ _ x. absurd (false≢true (sym e ∙ simp (f .ticks) x))) (λ _ x. x)
+
+  as-it-was : (n : Node) → retiredBy (s .process) n ≡ false → handing n ≡ n
+  as-it-was n e = rw e
+
+  -- the nodes handed over are the retirements noted
+  handed-fits : count (unfreed (s .process)) (q .cells) ≡ count (retiredBy (s .process)) (d .nodes)
+      → Fits a (leave d (s .process) (s .node)) (noted q (atKind Leave s) h)
+  handed-fits shown =
+      record {
+        params = f .params;
+        ticks = f .ticks;
+        logged = λ p t. rw (count-repeat (retiredSince p t) (count (unfreed (s .process)) (q .cells)) passing (h .retirements), shown)
+            (by p t (retiredSince p t passing) refl);
+      }
+    where
+      by : (p t : ℕ) (b : Bool) → retiredSince p t passing ≡ b
+          → count (retiredByAfter p t) (map handing (d .nodes))
+          ≤ cond b (count (retiredBy (s .process)) (d .nodes)) 0 + count (retiredSince p t) (h .retirements)
+      by p t true e = omega (arith, count-changed (retiredByAfter p t) (retiredBy (s .process)) handing (d .nodes) as-it-was, f .logged p t)
+      by p t false e =
+          rw (count-map (retiredByAfter p t) handing (d .nodes))
+          (omega (arith, count-mono (λ n. retiredByAfter p t (handing n)) (retiredByAfter p t) (d .nodes) (λ n. noted-as p t n e), f .logged p t))
+
 -- what a scan leaves: the nodes that are not aged, and those in hazards as its process sees them
 scan-left : (a : Params) (d : Domain) (h : History) (p : ℕ) → Inv d → Fits a d h
     → count (retiredBy p) (scan d p .after .nodes) ≤ a .processes * a .hazards + count (retiredSince p (h .ticks - delay a)) (h .retirements)
@@ -165,33 +207,40 @@ module _ (a : Params) (q : Reference) (h : History) where
           let c = ap (λ (x : Params). x .fallbackThreshold) (f .params) in
           omega arith
 
-  past-as : (k : Kind) (d : Domain) (s : Step) → Inv d → Fits a d h → Asked k d s → Past a q (atKind k s) h (accepted (act k d s))
-  past-as Allocate d s i f r = past-quiet Allocate d s f refl (λ e. absurd (omega arith)) (quiet-node d (s .node) _ (λ _. refl))
-  past-as Publish d s i f r = past-quiet Publish d s f refl (λ e. absurd (omega arith)) (quiet-node d (s .node) _ (λ _. refl))
-  past-as Protect d s i f r = past-quiet Protect d s f refl (λ e. absurd (omega arith)) (quiet-same d _ refl refl refl)
-  past-as Check d s i f r = past-quiet Check d s f refl (λ e. absurd (omega arith)) (quiet-same d _ refl refl refl)
-  past-as Use d s i f r = past-quiet Use d s f refl (λ e. absurd (omega arith)) (quiet-same d _ refl refl refl)
-  past-as Clear d s i f r = past-quiet Clear d s f refl (λ e. absurd (omega arith)) (quiet-same d _ refl refl refl)
-  past-as Remove d s i f r = past-quiet Remove d s f refl (λ e. absurd (omega arith)) (quiet-node d (s .node) _ (λ _. refl))
-  past-as Retire d s i f r =
-      past-reclaim (marked d s) s (marked-ok d s i (r .process refl) (r .acts' refl) (r .owner refl)) (marked-fits a d q s h f (r .owner refl))
-  past-as Drain d s i f r = past-quiet Drain d s f refl (λ e. absurd (omega arith)) (quiet-same d _ refl refl refl)
-  past-as Flush d s i f r = past-quiet Flush d s f refl (λ e. absurd (omega arith)) (quiet-same d _ refl refl refl)
-  past-as Tick d s i f r =
+  -- the reference has as many unfreed retired nodes of each process as the domain
+  abbrev Shows : Domain → Type 0
+  Shows d = (p : ℕ) → count (unfreed p) (q .cells) ≡ count (retiredBy p) (d .nodes)
+
+  past-as : (k : Kind) (d : Domain) (s : Step) → Inv d → Fits a d h → Shows d → Asked k d s → Past a q (atKind k s) h (accepted (act k d s))
+  past-as Allocate d s i f w r = past-quiet Allocate d s f refl (λ e. absurd (omega arith)) (quiet-node d (s .node) _ (λ _. refl))
+  past-as Publish d s i f w r = past-quiet Publish d s f refl (λ e. absurd (omega arith)) (quiet-node d (s .node) _ (λ _. refl))
+  past-as Protect d s i f w r = past-quiet Protect d s f refl (λ e. absurd (omega arith)) (quiet-same d _ refl refl refl)
+  past-as Check d s i f w r = past-quiet Check d s f refl (λ e. absurd (omega arith)) (quiet-same d _ refl refl refl)
+  past-as Use d s i f w r = past-quiet Use d s f refl (λ e. absurd (omega arith)) (quiet-same d _ refl refl refl)
+  past-as Clear d s i f w r = past-quiet Clear d s f refl (λ e. absurd (omega arith)) (quiet-same d _ refl refl refl)
+  past-as Remove d s i f w r = past-quiet Remove d s f refl (λ e. absurd (omega arith)) (quiet-node d (s .node) _ (λ _. refl))
+  past-as Retire d s i f w r =
+      past-reclaim (marked d s) s (marked-ok d s i (r .process refl) (acting Retire d s r refl refl) (r .owner refl)) (marked-fits a d q s h f (r .owner refl))
+  past-as Drain d s i f w r = past-quiet Drain d s f refl (λ e. absurd (omega arith)) (quiet-same d _ refl refl refl)
+  past-as Flush d s i f w r = past-quiet Flush d s f refl (λ e. absurd (omega arith)) (quiet-same d _ refl refl refl)
+  past-as Tick d s i f w r =
       record {
         fits = record { params = f .params; ticks = ap (λ n. n + 1) (f .ticks); logged = f .logged };
         bounded = λ _ e. absurd (omega arith);
       }
-  past-as Manage d s i f r = past-quiet Manage d s f refl (λ e. absurd (omega arith)) (quiet-manage d s)
-  past-as ClearPresence d s i f r = past-quiet ClearPresence d s f refl (λ e. absurd (omega arith)) (quiet-same d _ refl refl refl)
-  past-as Reinsert d s i f r = past-quiet Reinsert d s f refl (λ e. absurd (omega arith)) (quiet-node d (s .node) _ (λ _. refl))
-  past-as Unknown d s i f r = absurd (true≢false (r .known))
+  past-as Manage d s i f w r = past-quiet Manage d s f refl (λ e. absurd (omega arith)) (quiet-manage d s)
+  past-as ClearPresence d s i f w r = past-quiet ClearPresence d s f refl (λ e. absurd (omega arith)) (quiet-same d _ refl refl refl)
+  past-as Reinsert d s i f w r = past-quiet Reinsert d s f refl (λ e. absurd (omega arith)) (quiet-node d (s .node) _ (λ _. refl))
+  past-as Leave d s i f w r =
+      record { fits = handed-fits a d q s h f (w (s .process)); bounded = λ _ e. absurd (omega arith) }
+  past-as Join d s i f w r = past-quiet Join d s f refl (λ e. absurd (omega arith)) (quiet-same d _ refl refl refl)
+  past-as Unknown d s i f w r = absurd (true≢false (r .known))
 
-  pub past-step : (d : Domain) (s : Step) → Inv d → Fits a d h → Past a q s h (step d s)
+  pub past-step : (d : Domain) (s : Step) → Inv d → Fits a d h → Shows d → Past a q s h (step d s)
   unfolding step
-  past-step d s i f =
+  past-step d s i f w =
       by-step (kindOf (s .kind)) d s (Past a q s h) (past-refused d s f)
-      (λ r. subst (λ t. Past a q t h (accepted (act (kindOf (s .kind)) d s))) (at-kind s (r .known)) (past-as (kindOf (s .kind)) d s i f r))
+      (λ r. subst (λ t. Past a q t h (accepted (act (kindOf (s .kind)) d s))) (at-kind s (r .known)) (past-as (kindOf (s .kind)) d s i f w r))
 
 pub past-fresh : (a : Params) → Fits a (fresh a) noHistory
 unfolding fresh

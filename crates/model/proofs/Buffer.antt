@@ -102,7 +102,7 @@ module _ (d : Domain) (s : Step) (i : Inv d) (hp : s .process < d .params .proce
   -- it keeps its epoch
   pub keep-process : (x : Process) → length (x .hazards) ≡ length (here d s .hazards) → x .epoch ≡ here d s .epoch
       → inEpochs x ≡ inEpochs (here d s) → ProcessOk d x → Inv (setProcess d (s .process) x)
-  keep-process x l e t o = set-process d i (s .process) x hp l (λ u. rw e (near-here (sym t ∙ u))) (λ h. e ∙ h) o
+  keep-process x l e t o = set-process d i (s .process) x hp l (λ u. rw e (near-here (sym t ∙ u))) (λ _ _ _ h. e ∙ h) o
 
   pub assign-keeps : (v : ℕ) → s .hazard < d .params .hazards → Inv (assign d s v)
   assign-keeps v hh =

@@ -23,7 +23,7 @@ pub follows : (a : Params) (ss : List Step) (d : Domain) (h : History) → Inv d
 follows a [] d h i f = tt
 follows a (s ∷ ss) d h i f =
     let m = sim-step d s i in
-    let p = past-step a (image d) h d s i f in
+    let p = past-step a (image d) h d s i f (λ r. unfreed-image r d) in
     let j = invariant-step d s i in (
       m .chosen,
       record {

@@ -1,4 +1,4 @@
--- Every case of the list starts well: from a fresh domain, or from `stopped` or `stray`, which no run reaches. Assumes nothing.
+-- Every case of the list starts well: from a fresh domain, or from `stopped`, `stray` or `parked`, which no run reaches. Assumes nothing.
 use Prim.Native.Nat.{ℕ, _≤_}
 use mathlib.Core.List.{List, [], _∷_}
 use mathlib.Core.Path.{_≡_, refl, sym}
@@ -9,7 +9,7 @@ use Rattle.model.specs.Params.{Params, InRange, lastClock}
 use Rattle.model.specs.State.{Pending, Hazard, Node, Fallback}
 use Rattle.model.specs.WellFormed.{WellFormed, NodeFits, HazardFits, PendingFits}
 use Rattle.model.specs.Cases.{process, domain}
-use Rattle.model.specs.Edge.{StartsWell, cases}
+use Rattle.model.specs.Edge.{StartsWell, parked, cases}
 use Rattle.model.proofs.Each.{_then_}
 use Rattle.model.proofs.WellFormed.{well-formed-fresh}
 
@@ -33,6 +33,29 @@ lone-well a t v e h ns r one word many fe fh fn =
         tt,
       );
       nodes = fn;
+    }
+
+-- two processes, the second absent with a store pending
+parked-well : WellFormed parked
+parked-well =
+    record {
+      params = omega arith;
+      clock = omega arith;
+      path = omega arith;
+      epoch = omega arith;
+      processCount = refl;
+      nodeCount = refl;
+      processes = (
+        record { words = omega arith; stores = record { room = omega arith; width = refl; buffer = tt; hazards = (omega arith, tt) } },
+        (
+          record {
+            words = omega arith;
+            stores = record { room = omega arith; width = refl; buffer = (omega arith, tt); hazards = (omega arith, tt) };
+          },
+          tt,
+        ),
+      );
+      nodes = (omega arith, (omega arith, tt));
     }
 
 -- a line a case, in the list's order
@@ -63,4 +86,16 @@ starts-well =
     then well-formed-fresh _ (omega arith)
     then well-formed-fresh _ (omega arith)
     then well-formed-fresh _ (omega arith)
+    then well-formed-fresh _ (omega arith)
+    then well-formed-fresh _ (omega arith)
+    then well-formed-fresh _ (omega arith)
+    then well-formed-fresh _ (omega arith)
+    then well-formed-fresh _ (omega arith)
+    then well-formed-fresh _ (omega arith)
+    then well-formed-fresh _ (omega arith)
+    then well-formed-fresh _ (omega arith)
+    then omega arith
+    then well-formed-fresh _ (omega arith)
+    then well-formed-fresh _ (omega arith)
+    then parked-well
     then tt

@@ -7,22 +7,24 @@ use mathlib.Core.Logic.{_≢_}
 use native.Mathlib.Omega.{arith}
 use native.Mathlib.Nat.{zero-add}
 use borrow.Author.Tests.{ne-eqb, eq-eqb, eqb-true}
-use lib.ListN.{length, getD, length-set}
+use lib.ListN.{length, getD, length-set, length-map}
 use lib.Dec.{eqb}
-use Rattle.lists.proofs.Bools.{not-alone}
+use Rattle.lists.proofs.Bools.{by-cond, not-alone}
 use Rattle.lists.proofs.Stores.{set-keeps}
 use Rattle.lists.proofs.Counts.{count-places}
 use Rattle.lists.proofs.Sweeps.{sweep-is}
 use Rattle.model.specs.Params.{Params}
 use Rattle.model.specs.State.{Node, Domain, Step, Free, Retired, freeNode, nodeOf, setNode}
 use Rattle.model.specs.Kinds.{Kind, kindOf, is, Allocate, Publish, Protect, Check, Use, Clear, Remove}
-use Rattle.model.specs.Kinds.{Retire, Drain, Flush, Tick, Manage, ClearPresence, Reinsert, Unknown}
-use Rattle.model.specs.Retire.{Effect, marked}
+use Rattle.model.specs.Kinds.{Retire, Drain, Flush, Tick, Manage, ClearPresence, Reinsert, Leave, Join, Unknown}
+use Rattle.model.specs.Retire.{Effect, retiredBy, marked}
+use Rattle.model.specs.Leave.{handed, handOver}
 use Rattle.model.specs.Machine.{act, stepAs, step}
 use Rattle.model.specs.Claims.{turnedFree, reportsFreed, FreedAreCounted}
 use Rattle.model.proofs.Walk.{Asked, by-step}
 use Rattle.model.proofs.KindNumbers.{same-kind}
-use Rattle.model.proofs.Freeing.{Reclaims, reclaims-none, reclaim-reclaims, manage-reclaims}
+use Rattle.model.proofs.Freeing.{Reclaims, reclaims-none, retired-by, reclaim-reclaims, manage-reclaims}
+use Rattle.model.proofs.Freeing.{handed-at}
 
 -- what a node that became n may have been: nothing but a Free node becomes Free, and no Free node Retired
 record Was (before n : Node) : Type 0 where
@@ -59,6 +61,17 @@ stored d c n w =
 pub none-turned : (d : Domain) → turnedFree d d ≡ 0
 none-turned d = turned-sweep d _ (reclaims-none d) refl (λ c. omega arith)
 
+-- ---- Nodes handed over
+
+handed-was : (p q t e : ℕ) (n : Node) → Was n (handed p q t e n)
+handed-was p q t e n =
+    by-cond (Was n) (retiredBy p n) (λ h. omega (arith, retired-by p n h .0)) (λ _. omega arith)
+
+handed-over : (d : Domain) (p q : ℕ) → turnedFree d (handOver d p q) ≡ 0
+handed-over d p q =
+    turned-sweep d _ (reclaims-none (handOver d p q)) (sym (length-map (d .nodes) _))
+    (λ c. rw (handed-at d p q c) (handed-was p q _ _ (nodeOf d c)))
+
 -- ---- A step
 
 freed : (k : Kind) (d : Domain) (s : Step) → Asked k d s
@@ -79,6 +92,8 @@ freed Tick d s a = none-turned d
 freed Manage d s a = turned-sweep d _ (manage-reclaims d s) refl (λ c. omega arith)
 freed ClearPresence d s a = none-turned d
 freed Reinsert d s a = stored d (s .node) _ (omega arith)
+freed Leave d s a = handed-over d (s .process) (s .node)
+freed Join d s a = none-turned d
 freed Unknown d s a = none-turned d
 
 -- of an outcome, whichever way retires and manages are told

@@ -1,24 +1,26 @@
 -- The reference's image of a domain: it agrees with the domain, and the reference's step at the image comes to the image of the domain
 -- after it. Assumes nothing.
 use Prim.Native.Nat.{ℕ, _-_, _<_}
-use mathlib.Core.Bool.{true, cond}
+use mathlib.Core.Bool.{Bool, true, false, cond}
 use mathlib.Core.List.{List, [], _∷_, map}
 use mathlib.Core.Path.{_≡_, refl, sym, ap, _∙_}
 use borrow.Author.Tests.{lt-ltb, eq-eqb, ne-eqb}
 use lib.ListN.{getD, length-map, List·getD-map}
 use lib.Seq.{map-set-same}
 use Rattle.lists.specs.Tests.{every}
-use Rattle.lists.proofs.Stores.{map-set, map-replicate, map-again}
+use Rattle.lists.proofs.Stores.{map-set, map-replicate, map-again, map-across}
 use Rattle.model.specs.Params.{Params}
 use Rattle.model.specs.State.{Pending, Hazard, Process, Node, Domain, Step, emptyHazard, noProcess}
-use Rattle.model.specs.State.{freeNode, nodeOf, processOf, hazardOf, setProcess, absent, clearPresence}
+use Rattle.model.specs.State.{freeNode, nodeOf, processOf, hazardOf, setProcess, withoutPresence, clearPresence}
 use Rattle.model.specs.Kinds.{Kind, is, Allocate, Publish, Protect, Check, Use, Clear, Remove, Retire}
-use Rattle.model.specs.Kinds.{Drain, Flush, Tick, Manage, ClearPresence, Reinsert, Unknown}
+use Rattle.model.specs.Kinds.{Drain, Flush, Tick, Manage, ClearPresence, Reinsert, Leave, Join, Unknown}
 use Rattle.model.specs.Hazards.{here, target, committing, drained, flushed}
-use Rattle.model.specs.Retire.{marked}
+use Rattle.model.specs.Retire.{retiredBy, retiring, marked}
+use Rattle.model.specs.Leave.{ownedBy, handed, handOver}
 use Rattle.model.specs.Machine.{act, fresh}
 use Rattle.model.specs.Reference.{Cell, Pointer, Reference, emptyCell, emptyPointer, initial, cellAt}
-use Rattle.model.specs.Reference.{pointerAt, process?, node?, state?, owner?, asks, follow, valueOf}
+use Rattle.model.specs.Reference.{pointerAt, withEachCell, passed, process?, node?, state?, owner?, asks}
+use Rattle.model.specs.Reference.{follow, valueOf}
 use Rattle.model.specs.Claims.{Agrees, commandOf}
 use Rattle.model.proofs.Walk.{Asked}
 use Rattle.model.proofs.KindNumbers.{atKind}
@@ -95,6 +97,8 @@ yes-as Tick d s a = refl
 yes-as Manage d s a = refl
 yes-as ClearPresence d s a = refl
 yes-as Reinsert d s a = yes-owned d s 3 (a .process refl) (a .node refl) (a .state 3 refl) (a .owner refl)
+yes-as Leave d s a = simp (lt-ltb _ _ (a .process refl))
+yes-as Join d s a = simp (lt-ltb _ _ (a .process refl))
 yes-as Unknown d s a = refl
 
 -- ---- changes that the image does not show
@@ -111,8 +115,19 @@ row-flushed x (w ∷ b) = row-flushed (committing x w b) b ∙ row-drained x (w 
 pub same-row : (d : Domain) (p : ℕ) (x : Process) → row x ≡ row (processOf d p) → image (setProcess d p x) ≡ image d
 same-row d p x e = simp (map-set-same row (d .processes) p x noProcess e)
 
-pub same-absent : (d : Domain) → image (clearPresence d) ≡ image d
-same-absent d = simp (map-again row absent (d .processes) (λ _. refl))
+pub same-presence : (d : Domain) → image (clearPresence d) ≡ image d
+same-presence d = simp (map-again row withoutPresence (d .processes) (λ _. refl))
+
+-- nodes handed over pass from owner to owner on the reference
+cell-handed : (p q t e : ℕ) (n : Node) → cell (handed p q t e n) ≡ passed p q (cell n)
+cell-handed p q t e n = by (retiredBy p n)
+  where
+    by : (b : Bool) → cell (cond b (retiring t e (ownedBy q n)) n) ≡ cond b (record { state = 4; owner = q; guest = n .guest }) (cell n)
+    by true = refl
+    by false = refl
+
+same-handed : (d : Domain) (p q : ℕ) → withEachCell (image d) (passed p q) ≡ image (handOver d p q)
+same-handed d p q = simp (map-across cell (handed p q (d .clock) (processOf d q .epoch)) (passed p q) (d .nodes) (cell-handed p q (d .clock) (processOf d q .epoch)))
 
 -- ---- the reference's step at the image. A retire frees, and a manage does all that it does, after this
 
@@ -133,8 +148,10 @@ follow-as Drain d s = sym (same-row d (s .process) _ (row-drained (here d s) (he
 follow-as Flush d s = sym (same-row d (s .process) _ (row-flushed (here d s) (here d s .buffer)))
 follow-as Tick d s = refl
 follow-as Manage d s = refl
-follow-as ClearPresence d s = sym (same-absent d)
+follow-as ClearPresence d s = sym (same-presence d)
 follow-as Reinsert d s = simp (cell-at, map-set)
+follow-as Leave d s = same-handed d (s .process) (s .node) ∙ sym (same-row (handOver d (s .process) (s .node)) (s .process) _ refl)
+follow-as Join d s = sym (same-row d (s .process) _ refl)
 follow-as Unknown d s = refl
 
 -- the value of a use

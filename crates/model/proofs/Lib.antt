@@ -14,6 +14,7 @@ pub mod Invariant
 pub mod Updates
 pub mod Buffer
 pub mod Unclaimed
+pub mod Leaving
 pub mod Preserved
 pub mod Image
 pub mod Simulation

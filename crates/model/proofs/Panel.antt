@@ -4,24 +4,26 @@
 use Prim.Native.Nat.{ℕ, _+_, _<_}
 use mathlib.Core.Bool.{Bool, _&&_, _||_, cond}
 use mathlib.Core.List.{List, [], _∷_}
-use mathlib.Core.Path.{_≡_, refl, _∙_}
+use mathlib.Core.Path.{_≡_, refl, _∙_, ap}
 use native.Mathlib.Omega.{arith}
 use borrow.Author.Tests.{ne-eqb}
-use lib.ListN.{length, length-set, length-replicate}
+use lib.ListN.{length, length-set, length-map, length-replicate}
 use lib.Dec.{eqb}
 use Rattle.lists.specs.Tests.{count}
-use Rattle.lists.proofs.Counts.{count-swap, count-replicate}
+use Rattle.lists.proofs.Bools.{by-cond}
+use Rattle.lists.proofs.Counts.{count-kept, count-swap, count-replicate}
 use Rattle.lists.proofs.Sweeps.{sweep-length, count-others}
 use Rattle.model.specs.Params.{Params}
 use Rattle.model.specs.State.{Node, Domain, Step, Reachable, freeNode, nodeOf, setNode}
 use Rattle.model.specs.Kinds.{Kind, kindOf, is, Allocate, Publish, Protect, Check, Use, Clear, Remove}
-use Rattle.model.specs.Kinds.{Retire, Drain, Flush, Tick, Manage, ClearPresence, Reinsert, Unknown}
-use Rattle.model.specs.Retire.{Effect, marked}
+use Rattle.model.specs.Kinds.{Retire, Drain, Flush, Tick, Manage, ClearPresence, Reinsert, Leave, Join, Unknown}
+use Rattle.model.specs.Retire.{Effect, retiredBy, marked}
+use Rattle.model.specs.Leave.{handed}
 use Rattle.model.specs.Machine.{Outcome, act, stepAs, step, run, fresh}
 use Rattle.model.specs.Claims.{reachableCount, raises, lowers, acceptedOf, PanelStep, Panel}
 use Rattle.model.proofs.Walk.{Asked, by-step}
 use Rattle.model.proofs.KindNumbers.{same-kind}
-use Rattle.model.proofs.Freeing.{Reclaims, reclaim-reclaims, manage-reclaims}
+use Rattle.model.proofs.Freeing.{Reclaims, retired-by, reclaim-reclaims, manage-reclaims}
 
 abbrev reachable : Node → Bool
 reachable n = eqb (n .state) Reachable
@@ -63,6 +65,11 @@ swept k d {ns = ns} e b r =
       even = rw (count-others freeNode (r .test) reachable 0 ns refl (λ c n q. rw (r .retired c n q))) (b .even);
     })
 
+-- a node handed over was Retired, and is
+reachable-handed : (p q t e : ℕ) (n : Node) → reachable (handed p q t e n) ≡ reachable n
+reachable-handed p q t e n =
+    by-cond (λ x. reachable x ≡ reachable n) (retiredBy p n) (λ h. rw (retired-by p n h .0)) (λ _. refl)
+
 -- ---- A step
 
 balanced : (k : Kind) (d : Domain) (s : Step) → Full d → Asked k d s
@@ -82,6 +89,12 @@ balanced Tick d s h a = record { full = h; even = refl }
 balanced Manage d s h a = swept Manage d _ (record { full = h; even = refl }) (manage-reclaims d s)
 balanced ClearPresence d s h a = record { full = h; even = refl }
 balanced Reinsert d s h a = stored Reinsert d h (s .node) _ (a .node refl) (rw (a .state _ refl))
+balanced Leave d s h a =
+    record {
+      full = length-map (d .nodes) _ ∙ h;
+      even = ap (λ n. n + 0) (count-kept reachable _ (d .nodes) (reachable-handed (s .process) (s .node) _ _));
+    }
+balanced Join d s h a = record { full = h; even = refl }
 balanced Unknown d s h a = record { full = h; even = refl }
 
 -- the same of an outcome, whichever way it is told what lowers and what raises

@@ -11,17 +11,18 @@ use Rattle.model.specs.Params.{Params}
 use Rattle.model.specs.State.{Process, Domain, Step, Fast, Fallback, emptyHazard, noProcess, freeNode}
 use Rattle.model.specs.State.{processOf, hazardOf, withPath}
 use Rattle.model.specs.Kinds.{Kind, kindOf, Allocate, Publish, Protect, Check, Use, Clear, Remove, Retire}
-use Rattle.model.specs.Kinds.{Drain, Flush, Tick, Manage, ClearPresence, Reinsert, Unknown}
+use Rattle.model.specs.Kinds.{Drain, Flush, Tick, Manage, ClearPresence, Reinsert, Leave, Join, Unknown}
 use Rattle.model.specs.Hazards.{here, pointer, validating, unassigned}
 use Rattle.model.specs.Retire.{Effect, marked, fallBack, reclaim}
 use Rattle.model.specs.Epochs.{calledBy, counted, manage}
 use Rattle.model.specs.Machine.{act, allocating, step, stepAs, fresh}
-use Rattle.model.proofs.Walk.{Asked, by-step, by-reclaim, by-manage}
+use Rattle.model.proofs.Walk.{Asked, heir, acting, by-step, by-reclaim, by-manage}
 use Rattle.model.proofs.Invariant.{Near, ProcessOk, Inv}
 use Rattle.model.proofs.Updates.{set-node, with-path, clear-presence}
 use Rattle.model.proofs.Buffer.{hazards-here, keep-process, assign-keeps, validate-ok, drain-ok}
 use Rattle.model.proofs.Buffer.{flush-ok, tick-ok}
 use Rattle.model.proofs.Unclaimed.{scan-ok, quiescent-ok, marked-ok}
+use Rattle.model.proofs.Leaving.{leave-ok, join-ok}
 
 abbrev Keeps : Effect → Type 0
 Keeps e = Inv (e .after)
@@ -62,12 +63,12 @@ keep-as k d s i = by-step k d s (λ o. Inv (o .after)) (λ _ _. i) (kept k)
     kept Publish a = set-node d i (s .node) _ λ p h k o. absurd (omega (arith, a .state 1 refl))
     kept Protect a = assign-keeps d s i (a .process refl) _ (a .hazard refl)
     kept Check a = keep-process d s i (a .process refl) (validating (here d s) (s .hazard)) (simp length-set) refl refl
-        (validate-ok (i .processes (s .process)) (a .acts' refl) (s .hazard) (pointer d s .assigned - 1)
+        (validate-ok (i .processes (s .process)) (acting Check d s a refl refl) (s .hazard) (pointer d s .assigned - 1)
         (rw (hazards-here d s i (a .process refl)) (a .hazard refl)) (omega (arith, a .assigned refl)) (a .reachable refl))
     kept Use a = i
     kept Clear a = assign-keeps d s i (a .process refl) 0 (a .hazard refl)
     kept Remove a = set-node d i (s .node) _ λ p h k o. record { published = omega arith; limbo = λ e. absurd (omega arith) }
-    kept Retire a = reclaim-ok (marked d s) (marked-ok d s i (a .process refl) (a .acts' refl) (a .owner refl)) (s .process)
+    kept Retire a = reclaim-ok (marked d s) (marked-ok d s i (a .process refl) (acting Retire d s a refl refl) (a .owner refl)) (s .process)
     kept Drain a =
         let r = drain-ok d (here d s) (here d s .buffer) refl (i .processes (s .process)) in
         keep-process d s i (a .process refl) _ (r .width) (r .epoch) (r .counts) (r .ok)
@@ -78,6 +79,8 @@ keep-as k d s i = by-step k d s (λ o. Inv (o .after)) (λ _ _. i) (kept k)
     kept Manage a = manage-ok d s i (a .process refl) (a .unassigned' refl)
     kept ClearPresence a = clear-presence d i
     kept Reinsert a = set-node d i (s .node) _ λ p h k o. record { published = omega arith; limbo = λ e. absurd (omega arith) }
+    kept Leave a = leave-ok d i (s .process) (s .node) (a .process refl) (a .unburdened' refl) (heir d (s .process) (s .node) (a .takesOver' refl))
+    kept Join a = join-ok d i (s .process) (a .process refl) (a .present refl)
     kept Unknown a = i
 
 pub invariant-step : (d : Domain) (s : Step) → Inv d → Inv (step d s .after)
@@ -100,7 +103,7 @@ invariant-fresh a =
     }
   where
     idle : Process
-    idle = record { epoch = 0; calls = 0; presence = 0; buffer = []; hazards = replicate (a .hazards) emptyHazard }
+    idle = record { epoch = 0; calls = 0; presence = 0; present = 1; buffer = []; hazards = replicate (a .hazards) emptyHazard }
 
     visible : (h : ℕ) → hazardOf idle h .visible ≡ hazardOf idle h .assigned
     visible h = replicate-at (λ y. y .visible ≡ y .assigned) (a .hazards) emptyHazard emptyHazard h refl refl

@@ -15,14 +15,15 @@ use Rattle.lists.specs.Sweep.{sweepFrom, placesFrom}
 use Rattle.lists.proofs.Sweeps.{places-length}
 use Rattle.model.specs.State.{Node, Domain, Step, Fast, Fallback, Retired, freeNode, nodeOf, withPath}
 use Rattle.model.specs.Kinds.{Kind, kindOf, numberOf, Allocate, Publish, Protect, Check, Use, Clear}
-use Rattle.model.specs.Kinds.{Remove, Retire, Drain, Flush, Tick, Manage, ClearPresence, Reinsert, Unknown}
+use Rattle.model.specs.Kinds.{Remove, Retire, Drain, Flush, Tick, Manage, ClearPresence, Reinsert, Leave, Join}
+use Rattle.model.specs.Kinds.{Unknown}
 use Rattle.model.specs.Retire.{Effect, effect, dueIn, freeing, scan, marked, fallBack, reclaim}
 use Rattle.model.specs.Epochs.{expired, quiescent, counted, manage}
 use Rattle.model.specs.Machine.{Outcome, refused, accepted, act, step}
 use Rattle.model.specs.Reference.{Cell, Reference, emptyCell, pointerAt, asks, valueOf, freeEach}
 use Rattle.model.specs.Reference.{EachFreeable}
 use Rattle.model.specs.Claims.{commandOf, led, freedCount}
-use Rattle.model.proofs.Walk.{Asked, by-step, by-reclaim, by-quiescent, by-manage}
+use Rattle.model.proofs.Walk.{Asked, acting, by-step, by-reclaim, by-quiescent, by-manage}
 use Rattle.model.proofs.KindNumbers.{atKind, at-kind}
 use Rattle.model.proofs.Invariant.{Inv, Claim}
 use Rattle.model.proofs.Updates.{with-path}
@@ -30,7 +31,7 @@ use Rattle.model.proofs.Freeing.{due-retired, expired-retired}
 use Rattle.model.proofs.Unclaimed.{due-unclaimed, expired-unclaimed, marked-ok}
 use Rattle.model.proofs.Preserved.{fall-back, counted-ok}
 use Rattle.model.proofs.Image.{cell, image, before, pointer-there, yes-as, follow-as, value-at, same-row}
-use Rattle.model.proofs.Image.{same-absent}
+use Rattle.model.proofs.Image.{same-presence}
 
 pub record Sim (d : Domain) (s : Step) (o : Outcome) : Type 0 where
   pub chosen : List ℕ
@@ -133,7 +134,7 @@ led-reclaim : (d : Domain) → Inv d → (p : ℕ) → Led (image d) (reclaim d 
 led-reclaim d i p =
     by-reclaim (Led (image d)) d p
     (λ _. led-scan d i p)
-    (λ _ _. subst (λ q. Led q (scan (fallBack d) p)) (same-absent (withPath d Fallback)) (led-scan (fallBack d) (fall-back d i) p))
+    (λ _ _. subst (λ q. Led q (scan (fallBack d) p)) (same-presence (withPath d Fallback)) (led-scan (fallBack d) (fall-back d i) p))
     (λ _ _. led-none (image d) d refl)
 
 led-quiescent : (d : Domain) → Inv d → (p : ℕ) → Led (image d) (quiescent d p)
@@ -205,13 +206,15 @@ sim-as Clear d s i a = sim-still Clear d s a refl (λ e. absurd (omega arith)) r
 sim-as Remove d s i a = sim-still Remove d s a refl (λ e. absurd (omega arith)) refl
 sim-as Retire d s i a =
     sim-led Retire d s a refl (λ e. absurd (omega arith))
-    (led-reclaim (marked d s) (marked-ok d s i (a .process refl) (a .acts' refl) (a .owner refl)) (s .process))
+    (led-reclaim (marked d s) (marked-ok d s i (a .process refl) (acting Retire d s a refl refl) (a .owner refl)) (s .process))
 sim-as Drain d s i a = sim-still Drain d s a refl (λ e. absurd (omega arith)) refl
 sim-as Flush d s i a = sim-still Flush d s a refl (λ e. absurd (omega arith)) refl
 sim-as Tick d s i a = sim-still Tick d s a refl (λ e. absurd (omega arith)) refl
 sim-as Manage d s i a = sim-led Manage d s a refl (λ e. absurd (omega arith)) (led-manage d s i a)
 sim-as ClearPresence d s i a = sim-still ClearPresence d s a refl (λ e. absurd (omega arith)) refl
 sim-as Reinsert d s i a = sim-still Reinsert d s a refl (λ e. absurd (omega arith)) refl
+sim-as Leave d s i a = sim-still Leave d s a refl (λ e. absurd (omega arith)) refl
+sim-as Join d s i a = sim-still Join d s a refl (λ e. absurd (omega arith)) refl
 sim-as Unknown d s i a = absurd (true≢false (a .known))
 
 pub sim-step : (d : Domain) (s : Step) → Inv d → Sim d s (step d s)

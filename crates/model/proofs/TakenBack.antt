@@ -31,7 +31,9 @@ module _ (d : Domain) (s t : Step) (w : WellFormed d) (p : t .process ≡ s .pro
       record {
         known = refl;
         process = λ _. rw p (a .process refl);
-        acts' = λ _. refl;
+        present = λ _. rw p (a .present refl);
+        unburdened' = none;
+        takesOver' = none;
         hazard = none;
         node = λ _. rw c (a .node refl);
         state = λ n e. state-met (rowOf Reinsert .needs) n _ (eq-eqb _ _ (ap (λ x. x .state) removed-here)) e;

@@ -23,9 +23,8 @@ use Rattle.model.specs.Retire.{freeing, scan, retiring, marked}
 use Rattle.model.specs.Epochs.{expired, caughtUp, quiescent}
 use Rattle.model.proofs.Walk.{by-quiescent}
 use Rattle.model.proofs.Freeing.{retired-by}
-use Rattle.model.proofs.Invariant.{hazardIn, Timely, epochIn, Inv, Claim}
+use Rattle.model.proofs.Invariant.{hazardIn, Timely, epochIn, Inv, Claim, HeldBy}
 use Rattle.model.proofs.Updates.{held-by, set-node, sweep-nodes, set-process}
-use Rattle.model.proofs.Buffer.{near-here}
 
 -- ---- what a scanning process sees: the two laws that a scan and the bound go by
 
@@ -65,6 +64,11 @@ lacked-by : (p i : ℕ) (ps : List Process) (q v : ℕ) → lacks (visibleFrom p
 lacked-by p i [] q v h = (false, refl)
 lacked-by p i (x ∷ xs) zero v h = (eqb i p, every-append _ (visibleIn (eqb i p) x) (visibleFrom p (suc i) xs) h .0)
 lacked-by p i (x ∷ xs) (suc q) v h = lacked-by p (suc i) xs q v (every-append _ (visibleIn (eqb i p) x) (visibleFrom p (suc i) xs) h .1)
+
+-- ---- no hazard is assigned
+
+pub bare : (x : Process) → unassigned x ≡ true → (h n : ℕ) → hazardOf x h .assigned ≡ suc n → ⊥
+bare x u h n a = let e = every-at _ (x .hazards) h emptyHazard u refl in omega (arith, eqb-true)
 
 -- ---- the scan
 
@@ -149,30 +153,32 @@ module _ (d : Domain) (i : Inv d) where
       (λ _ _. i)
       (λ ne. set-process (freeing d (expired d p) .after)
       (sweep-nodes d i (expired d p) (λ q h c. expired-unclaimed p q h c ne))
-      p _ hp refl (λ _. (i .epoch, omega (arith, i .epoch))) (λ _. refl)
+      p _ hp refl (λ _. (i .epoch, omega (arith, i .epoch))) (λ _ _ _ _. refl)
       (record {
         arrives = i .processes p .arrives;
         timely = i .processes p .timely;
         aimed = i .processes p .aimed;
         counts = i .processes p .counts;
-        held = λ h n v a. absurd (bare h n a);
+        held = λ h n v a. absurd (bare (processOf d p) u h n a);
       }))
-    where
-      bare : (h n : ℕ) → hazardOf (processOf d p) h .assigned ≡ suc n → ⊥
-      bare h n a =
-          let e = every-at _ (processOf d p .hazards) h emptyHazard u refl in omega (arith, eqb-true)
 
--- ---- a Removed node is marked Retired: by T and E its claims have the facts of H and G
-pub marked-ok : (d : Domain) (s : Step) → Inv d → s .process < d .params .processes → inEpochs (here d s) ≡ true
-    → nodeOf d (s .node) .owner ≡ s .process → Inv (marked d s)
-marked-ok d s i hp ht ho =
-    set-node d i (s .node) (retiring (d .clock) (here d s .epoch) (nodeOf d (s .node))) λ p h k o.
+-- ---- a node is retired now: by T and E its claims have the facts of H and G
+
+pub retired-now : (d : Domain) → Inv d → (o : ℕ) → o < d .params .processes → inEpochs (processOf d o) ≡ true → (n : Node)
+    → n .owner ≡ o → (p h : ℕ) → HeldBy d p h (retiring (d .clock) (processOf d o .epoch) n)
+retired-now d i o ho ht n e p h =
     record {
       published = omega arith;
       limbo = λ _. record {
         before = all-map (Timely (d .clock) (delay (d .params))) (λ w. w .hazard ≡ h → w .time ≤ d .clock) (processOf d p .buffer)
             (λ w f _. f .past) (i .processes p .timely);
-        home = λ e. ap (epochIn (d .processes)) ho ∙ e;
-        behind = λ e. absurd (near-here d s i hp ht .1 e);
+        home = λ g. ap (epochIn (d .processes)) e ∙ g;
+        behind = λ g. absurd (i .near o (rw (i .shape .processes) ho) ht .1 g);
       };
     }
+
+pub marked-ok : (d : Domain) (s : Step) → Inv d → s .process < d .params .processes → inEpochs (here d s) ≡ true
+    → nodeOf d (s .node) .owner ≡ s .process → Inv (marked d s)
+marked-ok d s i hp ht ho =
+    set-node d i (s .node) (retiring (d .clock) (here d s .epoch) (nodeOf d (s .node)))
+    (λ p h _ _. retired-now d i (s .process) hp ht (nodeOf d (s .node)) ho p h)

@@ -8,15 +8,16 @@ use lib.ListN.{length, getD, set, length-set, length-map, List·getD-map}
 use Rattle.lists.specs.Sweep.{sweepFrom}
 use Rattle.lists.proofs.Stores.{set-cases, set-keeps}
 use Rattle.lists.proofs.Sweeps.{sweep-at, sweep-length}
-use Rattle.model.specs.State.{Pending, Hazard, Process, Node, Domain, noProcess, freeNode, nodeOf}
-use Rattle.model.specs.State.{processOf, withNodes, withPath, setNode, setProcess, inEpochs, absent}
+use Rattle.model.specs.State.{Pending, Hazard, Process, Node, Domain, Retired, noProcess, freeNode, nodeOf}
+use Rattle.model.specs.State.{processOf, withNodes, withPath, setNode, setProcess, inEpochs, withoutPresence}
 use Rattle.model.specs.State.{clearPresence}
 use Rattle.model.proofs.Invariant.{Inv, ProcessInv, ProcessOk, Claim, Held, HeldBy, Near, epochIn}
 use Rattle.model.proofs.Invariant.{hazardIn}
 
--- with other local epochs: those that had come to the global one still have
+-- with other local epochs: those of owners of Retired nodes that had come to the global one still have
 with-epochs : {clock wait g : ℕ} {ep ep' : ℕ → ℕ} {ns : List Node} {e : ℕ} {b : List Pending} {hs : List Hazard} {c : Bool}
-    → ((p : ℕ) → ep p ≡ g → ep' p ≡ g) → ProcessInv clock wait g ep ns e b hs c → ProcessInv clock wait g ep' ns e b hs c
+    → ((c : ℕ) → getD ns c freeNode .state ≡ Retired → ep (getD ns c freeNode .owner) ≡ g → ep' (getD ns c freeNode .owner) ≡ g)
+    → ProcessInv clock wait g ep ns e b hs c → ProcessInv clock wait g ep' ns e b hs c
 with-epochs f o =
     record {
       arrives = o .arrives;
@@ -25,7 +26,7 @@ with-epochs f o =
       counts = o .counts;
       held = λ h n v a. let k = o .held h n v a in record {
         published = k .published;
-        limbo = λ r. let l = k .limbo r in record { before = l .before; home = λ q. f _ (l .home q); behind = l .behind };
+        limbo = λ r. let l = k .limbo r in record { before = l .before; home = λ q. f n r (l .home q); behind = l .behind };
       };
     }
 
@@ -47,7 +48,7 @@ module _ (d : Domain) (i : Inv d) where
   pub held-by : (p h n : ℕ) → Claim d p h n → HeldBy d p h (nodeOf d n)
   held-by p h n k = i .processes p .held h n (k .validated) (k .assigned)
 
-  same-nodes : (ns : List Node) → length ns ≡ length (d .nodes)
+  pub same-nodes : (ns : List Node) → length ns ≡ length (d .nodes)
       → ((p h n : ℕ) → Claim d p h n → HeldBy d p h (nodeOf d n) → HeldBy d p h (getD ns n freeNode)) → Inv (withNodes d ns)
   same-nodes ns l f =
       record {
@@ -71,11 +72,11 @@ module _ (d : Domain) (i : Inv d) where
       same-nodes (sweepFrom freeNode f 0 (d .nodes)) (sweep-length freeNode f 0 (d .nodes)) λ p h n k o.
       sweep-at freeNode f (HeldBy d p h) 0 (d .nodes) n (λ q. absurd (never p h n k (rw zero-add at q))) o
 
-  -- a process that stays at the global epoch if it was there
+  -- a process that stays at the global epoch if it was there and has Retired nodes
   pub set-process : (p : ℕ) (x : Process) → p < d .params .processes
       → length (x .hazards) ≡ length (processOf d p .hazards)
       → (inEpochs x ≡ true → Near (d .epoch) (x .epoch))
-      → (processOf d p .epoch ≡ d .epoch → x .epoch ≡ d .epoch)
+      → ((c : ℕ) → nodeOf d c .state ≡ Retired → nodeOf d c .owner ≡ p → processOf d p .epoch ≡ d .epoch → x .epoch ≡ d .epoch)
       → ProcessOk d x
       → Inv (setProcess d p x)
   set-process p x h l n up o =
@@ -95,9 +96,10 @@ module _ (d : Domain) (i : Inv d) where
       inside : p < length (d .processes)
       inside = rw (i .shape .processes) h
 
-      still : (q : ℕ) → epochIn (d .processes) q ≡ d .epoch → epochIn (set (d .processes) p x) q ≡ d .epoch
-      still q e = set-cases (λ y. y .epoch ≡ d .epoch) (d .processes) p q x noProcess inside
-          (λ r. up (ap (epochIn (d .processes)) (sym r) ∙ e)) (λ _. e)
+      still : (c : ℕ) → nodeOf d c .state ≡ Retired → epochIn (d .processes) (nodeOf d c .owner) ≡ d .epoch
+          → epochIn (set (d .processes) p x) (nodeOf d c .owner) ≡ d .epoch
+      still c r e = set-cases (λ y. y .epoch ≡ d .epoch) (d .processes) p (nodeOf d c .owner) x noProcess inside
+          (λ q. up c r q (ap (epochIn (d .processes)) (sym q) ∙ e)) (λ _. e)
 
   -- the path plays no part
   pub with-path : (v : ℕ) → Inv (withPath d v)
@@ -114,17 +116,17 @@ module _ (d : Domain) (i : Inv d) where
   clear-presence =
       record {
         shape = record {
-          processes = length-map (d .processes) absent ∙ i .shape .processes;
+          processes = length-map (d .processes) withoutPresence ∙ i .shape .processes;
           hazards = λ p h. rw (at p) (i .shape .hazards p (rw length-map at h));
           nodes = i .shape .nodes;
         };
         epoch = i .epoch;
         near = λ p h u. rw (at-epoch p) (i .near p (rw length-map at h) (sym (ap inEpochs (at p)) ∙ u));
-        processes = λ p. rw (at p) (with-epochs (λ q e. at-epoch q ∙ e) (i .processes p));
+        processes = λ p. rw (at p) (with-epochs (λ c _ e. at-epoch (nodeOf d c .owner) ∙ e) (i .processes p));
       }
     where
-      at : (p : ℕ) → processOf (clearPresence d) p ≡ absent (processOf d p)
-      at p = List·getD-map absent (d .processes) p noProcess
+      at : (p : ℕ) → processOf (clearPresence d) p ≡ withoutPresence (processOf d p)
+      at p = List·getD-map withoutPresence (d .processes) p noProcess
 
-      at-epoch : (p : ℕ) → epochIn (map absent (d .processes)) p ≡ epochIn (d .processes) p
+      at-epoch : (p : ℕ) → epochIn (map withoutPresence (d .processes)) p ≡ epochIn (d .processes) p
       at-epoch p = ap (λ x. x .epoch) (at p)

@@ -3,30 +3,33 @@
 use Prim.Native.Nat.{ℕ, _<_}
 use mathlib.Core.Bool.{Bool, true, false, not, _&&_, _||_, cond}
 use mathlib.Core.List.{List, [], _∷_}
-use mathlib.Core.Path.{_≡_, refl}
+use mathlib.Core.Path.{_≡_, refl, _∙_, ap}
 use mathlib.Core.Logic.{_≢_}
 use borrow.Author.Tests.{eqb-true, eqb-false, ltb-true, not-true, eq-eqb, ne-eqb, lt-ltb}
 use lib.ListN.{length, getD}
-use lib.Dec.{eqb}
+use lib.Dec.{eqb, ltb}
 use Rattle.lists.specs.Tests.{every}
 use Rattle.lists.proofs.Facts.{every-at}
 use Rattle.lists.proofs.Bools.{by-cond, both, implied, imply}
 use Rattle.model.specs.Params.{bufferSize, lastClock}
 use Rattle.model.specs.State.{Domain, Step, Reachable, Fast, Fallback, nodeOf, processOf, withPath}
-use Rattle.model.specs.State.{withEpoch, acts, nextEpoch}
+use Rattle.model.specs.State.{withEpoch, acts, isPresent, nextEpoch}
 use Rattle.model.specs.Kinds.{Kind, is, means, rowOf, meets, Needed, Any, Exactly, ProcessId, HazardId}
-use Rattle.model.specs.Kinds.{NodeId, Protect, Check, Use, Clear, Drain, Tick, Manage, Unknown}
+use Rattle.model.specs.Kinds.{NodeId, Protect, Check, Use, Clear, Drain, Tick, Manage, Leave, Join, Unknown}
 use Rattle.model.specs.Hazards.{here, pointer, target, young, unassigned}
 use Rattle.model.specs.Retire.{Effect, effect, scan, overfull, fallBack, reclaim}
 use Rattle.model.specs.Epochs.{caughtUp, adopt, quiescent, allCheckedIn, calledBy, counted, manage}
-use Rattle.model.specs.Questions.{Question, ask, firstNo, questions, refusalOf}
+use Rattle.model.specs.Questions.{Question, ask, firstNo, presentFor, questions, refusalOf}
+use Rattle.model.specs.Leave.{unburdened, takesOver}
 use Rattle.model.specs.Machine.{Outcome, refused, accepted, act, stepAs}
 
 -- what a yes to every question says
 pub record Asked (k : Kind) (d : Domain) (s : Step) : Type 0 where
   pub known : is k Unknown ≡ false
   pub process : means (rowOf k .process) ProcessId ≡ true → s .process < d .params .processes
-  pub acts' : means (rowOf k .process) ProcessId ≡ true → acts (here d s) ≡ true
+  pub present : means (rowOf k .process) ProcessId ≡ true → here d s .present ≡ presentFor k
+  pub unburdened' : is k Leave ≡ true → unburdened d (s .process) ≡ true
+  pub takesOver' : is k Leave ≡ true → takesOver d (s .process) (s .node) ≡ true
   pub hazard : means (rowOf k .hazard) HazardId ≡ true → s .hazard < d .params .hazards
   pub node : means (rowOf k .node) NodeId ≡ true → s .node < d .params .nodes
   pub state : (n : ℕ) → rowOf k .needs ≡ Exactly n → nodeOf d (s .node) .state ≡ n
@@ -39,6 +42,21 @@ pub record Asked (k : Kind) (d : Domain) (s : Step) : Type 0 where
   pub clock : is k Tick ≡ true → d .clock < lastClock
   pub young' : is k Tick ≡ true → every (young d) (d .processes) ≡ true
   pub unassigned' : is k Manage ≡ true → unassigned (here d s) ≡ true
+
+-- what question 22 says of the second process q, and 21 of the hazards
+pub record Heir (d : Domain) (p q : ℕ) : Type 0 where
+  pub below : q < d .params .processes
+  pub other : q ≢ p
+  pub present : isPresent (processOf d q) ≡ true
+
+pub heir : (d : Domain) (p q : ℕ) → takesOver d p q ≡ true → Heir d p q
+heir d p q h =
+    let u = both (ltb q (d .params .processes)) _ h in
+    let v = both (not (eqb q p)) _ (u .1) in
+    record { below = ltb-true _ _ (u .0); other = eqb-false _ _ (not-true _ (v .0)); present = v .1 }
+
+pub none-assigned : (d : Domain) (p : ℕ) → unburdened d p ≡ true → unassigned (processOf d p) ≡ true
+none-assigned d p h = both (unassigned (processOf d p)) _ h .0
 
 -- where no question has the number 0, no first no means all yes
 pub all-yes : (qs : List Question) → every (λ q. not (eqb (q .number) 0)) qs ≡ true → firstNo qs ≡ 0 → every (λ q. q .yes') qs ≡ true
@@ -74,19 +92,21 @@ module _ (k : Kind) (d : Domain) (s : Step) where
       record {
         known = not-true _ (yes-at 0 e);
         process = λ r. ltb-true _ _ (implied _ _ (yes-at 1 e) r);
-        acts' = λ _. refl;
-        hazard = λ r. ltb-true _ _ (implied _ _ (yes-at 2 e) r);
-        node = λ r. ltb-true _ _ (implied _ _ (yes-at 3 e) r);
-        state = λ n r. state-met _ n _ (yes-at 4 e) r;
-        owner = λ r. eqb-true _ _ (implied _ _ (yes-at 5 e) r);
-        assigned = λ r. eqb-false _ _ (not-true _ (implied _ _ (yes-at 6 e) r));
-        reachable = λ r. eqb-true _ _ (implied _ _ (yes-at 7 e) r);
-        validated = λ r. eqb-true _ _ (implied _ _ (yes-at 8 e) r);
-        room = λ r. ltb-true _ _ (implied _ _ (yes-at 9 e) r);
-        some' = λ r. eqb-false _ _ (not-true _ (implied _ _ (yes-at 10 e) r));
-        clock = λ r. ltb-true _ _ (implied _ _ (yes-at 11 e) r);
-        young' = λ r. implied _ _ (yes-at 12 e) r;
-        unassigned' = λ r. implied _ _ (yes-at 13 e) r;
+        present = λ r. eqb-true _ _ (implied _ _ (yes-at 2 e) r);
+        unburdened' = λ r. implied _ _ (yes-at 3 e) r;
+        takesOver' = λ r. implied _ _ (yes-at 4 e) r;
+        hazard = λ r. ltb-true _ _ (implied _ _ (yes-at 5 e) r);
+        node = λ r. ltb-true _ _ (implied _ _ (yes-at 6 e) r);
+        state = λ n r. state-met _ n _ (yes-at 7 e) r;
+        owner = λ r. eqb-true _ _ (implied _ _ (yes-at 8 e) r);
+        assigned = λ r. eqb-false _ _ (not-true _ (implied _ _ (yes-at 9 e) r));
+        reachable = λ r. eqb-true _ _ (implied _ _ (yes-at 10 e) r);
+        validated = λ r. eqb-true _ _ (implied _ _ (yes-at 11 e) r);
+        room = λ r. ltb-true _ _ (implied _ _ (yes-at 12 e) r);
+        some' = λ r. eqb-false _ _ (not-true _ (implied _ _ (yes-at 13 e) r));
+        clock = λ r. ltb-true _ _ (implied _ _ (yes-at 14 e) r);
+        young' = λ r. implied _ _ (yes-at 15 e) r;
+        unassigned' = λ r. implied _ _ (yes-at 16 e) r;
       }
 
   -- and back: a step of which all this holds is accepted
@@ -96,6 +116,9 @@ module _ (k : Kind) (d : Domain) (s : Step) where
       (rw (
         a .known,
         imply _ _ (λ r. lt-ltb _ _ (a .process r)),
+        imply _ _ (λ r. eq-eqb _ _ (a .present r)),
+        imply _ _ (a .unburdened'),
+        imply _ _ (a .takesOver'),
         imply _ _ (λ r. lt-ltb _ _ (a .hazard r)),
         imply _ _ (λ r. lt-ltb _ _ (a .node r)),
         meet-state _ _ (a .state),
@@ -109,6 +132,10 @@ module _ (k : Kind) (d : Domain) (s : Step) where
         imply _ _ (a .young'),
         imply _ _ (a .unassigned'),
       ))
+
+  -- whoever takes a step that is no join is present
+  pub acting : Asked k d s → means (rowOf k .process) ProcessId ≡ true → is k Join ≡ false → acts (here d s) ≡ true
+  acting a r e = eq-eqb _ 1 (a .present r ∙ ap (λ b. cond b 0 1) e)
 
   pub by-step : (P : Outcome → Type 0) → ((n : ℕ) → n ≢ 0 → P (refused n d)) → (Asked k d s → P (accepted (act k d s)))
       → P (stepAs k d s)

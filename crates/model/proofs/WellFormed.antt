@@ -1,7 +1,7 @@
 -- A fresh domain is well formed, and each step keeps it so. Assumes nothing.
 use Prim.Native.Nat.{ℕ, suc, _+_, _<_, _≤_}
 use mathlib.Core.Bool.{Bool}
-use mathlib.Core.List.{List, [], _∷_, _++_}
+use mathlib.Core.List.{List, [], _∷_, _++_, map}
 use mathlib.Core.Path.{_≡_, refl, _∙_}
 use mathlib.Core.Logic.{_≢_}
 use native.Mathlib.Omega.{arith}
@@ -9,21 +9,25 @@ use native.Mathlib.Nat.{mod-lt}
 use lib.ListN.{length, length-set, length-append, length-map, length-replicate}
 use Rattle.lists.specs.Tests.{All}
 use Rattle.lists.proofs.Facts.{all-at, all-set, all-snoc, all-replicate, all-sweep, all-map, all-through}
+use Rattle.lists.proofs.Bools.{by-cond}
 use Rattle.lists.proofs.Sweeps.{sweep-length}
 use Rattle.model.specs.Params.{Params, InRange, bufferSize, lastClock}
 use Rattle.model.specs.State.{Pending, Hazard, Process, Node, Domain, Step, Fast, Fallback, freeNode, Retired}
-use Rattle.model.specs.State.{emptyHazard, noProcess, nodeOf, processOf, hazardOf, withPath, withEpoch}
-use Rattle.model.specs.State.{withClock, setNode, setProcess, withStores, withWords, setHazard, nextEpoch}
-use Rattle.model.specs.State.{absent, clearPresence}
+use Rattle.model.specs.State.{emptyHazard, noProcess, nodeOf, processOf, hazardOf, withNodes, withPath}
+use Rattle.model.specs.State.{withEpoch}
+use Rattle.model.specs.State.{withClock, setNode, setProcess, withStores, withWords, withPresent, setHazard}
+use Rattle.model.specs.State.{nextEpoch}
+use Rattle.model.specs.State.{withoutPresence, clearPresence}
 use Rattle.model.specs.WellFormed.{NodeFits, HazardFits, PendingFits, ProcessFits, WellFormed}
 use Rattle.model.specs.Kinds.{Kind, kindOf, Allocate, Publish, Protect, Check, Use, Clear, Remove, Retire}
-use Rattle.model.specs.Kinds.{Drain, Flush, Tick, Manage, ClearPresence, Reinsert, Unknown}
+use Rattle.model.specs.Kinds.{Drain, Flush, Tick, Manage, ClearPresence, Reinsert, Leave, Join, Unknown}
 use Rattle.model.specs.Hazards.{here, pending, assigning, validating, committing, drained, flushed}
-use Rattle.model.specs.Retire.{freeing, marked, retiring}
+use Rattle.model.specs.Retire.{retiredBy, freeing, marked, retiring}
 use Rattle.model.specs.Epochs.{expired, quiescent, calledBy, counted}
+use Rattle.model.specs.Leave.{handed, handOver, join}
 use Rattle.model.specs.Machine.{act, step, fresh, allocating, publishing, removing}
 use Rattle.model.specs.Claims.{StepWellFormed, FreshWellFormed}
-use Rattle.model.proofs.Walk.{Asked, by-step, by-reclaim, by-quiescent, by-manage}
+use Rattle.model.proofs.Walk.{Asked, heir, by-step, by-reclaim, by-quiescent, by-manage}
 
 -- what a node and a process of a domain must be
 abbrev NodeIn : Domain → Node → Type 0
@@ -42,8 +46,21 @@ module _ {a : Params} {clock : ℕ} {x : Process} (f : ProcessFits a clock x) wh
   fits-words e k v he hk hv =
       let o = f .stores in
       record {
-        words = record { epoch = he; calls = hk; presence = hv };
+        words = record { epoch = he; calls = hk; presence = hv; present = f .words .present };
         stores = record { room = o .room; width = o .width; buffer = o .buffer; hazards = o .hazards };
+      }
+
+  pub fits-present : (t : ℕ) → t ≤ 1 → ProcessFits a clock (withPresent x t)
+  fits-present t h =
+      let o = f .words in
+      record {
+        words = record { epoch = o .epoch; calls = o .calls; presence = o .presence; present = h };
+        stores = record {
+          room = f .stores .room;
+          width = f .stores .width;
+          buffer = f .stores .buffer;
+          hazards = f .stores .hazards;
+        };
       }
 
   -- a hazard at place h, and any buffer
@@ -52,7 +69,7 @@ module _ {a : Params} {clock : ℕ} {x : Process} (f : ProcessFits a clock x) wh
   fits-stores b h y room buffer new =
       let o = f .words in
       record {
-        words = record { epoch = o .epoch; calls = o .calls; presence = o .presence };
+        words = record { epoch = o .epoch; calls = o .calls; presence = o .presence; present = o .present };
         stores = record {
           room = room;
           width = length-set (x .hazards) h y ∙ f .stores .width;
@@ -64,8 +81,8 @@ module _ {a : Params} {clock : ℕ} {x : Process} (f : ProcessFits a clock x) wh
   hazard-fits : (h : ℕ) → h < a .hazards → HazardFits a (hazardOf x h)
   hazard-fits h l = all-at (HazardFits a) (x .hazards) h emptyHazard (f .stores .hazards) (rw (f .stores .width) l)
 
-  fits-absent : ProcessFits a clock (absent x)
-  fits-absent = let o = f .words in fits-words _ _ 0 (o .epoch) (o .calls) (omega arith)
+  fits-without-presence : ProcessFits a clock (withoutPresence x)
+  fits-without-presence = let o = f .words in fits-words _ _ 0 (o .epoch) (o .calls) (omega arith)
 
   fits-assigning : (h v : ℕ) → h < a .hazards → v ≤ a .nodes → length (x .buffer) < bufferSize
       → ProcessFits a clock (assigning x h v clock)
@@ -167,10 +184,15 @@ module _ {d : Domain} (w : WellFormed d) where
       keep (w .path) (w .epoch) (length-set (d .processes) p x) (all-set (ProcessIn d) (d .processes) p x (w .processes) f)
       refl (w .nodes)
 
-  pub keep-absent : WellFormed (clearPresence d)
-  keep-absent =
-      keep (w .path) (w .epoch) (length-map (d .processes) absent)
-      (all-through (ProcessIn d) absent (d .processes) (λ x f. fits-absent f) (w .processes)) refl (w .nodes)
+  -- each node changed
+  keep-each : (f : Node → Node) → ((n : Node) → NodeIn d n → NodeIn d (f n)) → WellFormed (withNodes d (map f (d .nodes)))
+  keep-each f g =
+      keep (w .path) (w .epoch) refl (w .processes) (length-map (d .nodes) f) (all-through (NodeIn d) f (d .nodes) g (w .nodes))
+
+  pub keep-presence : WellFormed (clearPresence d)
+  keep-presence =
+      keep (w .path) (w .epoch) (length-map (d .processes) withoutPresence)
+      (all-through (ProcessIn d) withoutPresence (d .processes) (λ x f. fits-without-presence f) (w .processes)) refl (w .nodes)
 
   pub keep-clock : d .clock < lastClock → WellFormed (withClock d (d .clock + 1))
   keep-clock l =
@@ -213,6 +235,23 @@ keep-published : {d : Domain} → WellFormed d → (c : ℕ) → c < d .params .
 keep-published {d} w c h z =
     let n = node-fits w c h in keep-node w c (publishing (nodeOf d c)) (omega (arith, w .params, n .unretired z))
 
+-- nodes handed over to another process, and the leaver gone
+pub keep-handed : {d : Domain} → WellFormed d → (p q : ℕ) → q < d .params .processes → WellFormed (handOver d p q)
+keep-handed {d} w p q l =
+    let o = process-fits w q l .words in
+    keep-each w (handed p q (d .clock) (processOf d q .epoch)) λ n f.
+    by-cond (NodeIn d) (retiredBy p n) (λ _. omega arith) (λ _. f)
+
+pub keep-left : {d : Domain} → WellFormed d → (p : ℕ) → p < d .params .processes → WellFormed (setProcess d p (withPresent (withWords (processOf d p) 0 0 0) 0))
+keep-left w p l =
+    keep-process w p _
+    (fits-present (fits-words (process-fits w p l) 0 0 0 (omega arith) (w .params .quiescenceThreshold .0) (omega arith)) 0 (omega arith))
+
+pub keep-joined : {d : Domain} → WellFormed d → (p : ℕ) → p < d .params .processes → WellFormed (join d p)
+keep-joined w p l =
+    let f = process-fits w p l in
+    keep-process w p _ (fits-present (fits-words f _ _ _ (w .epoch) (f .words .calls) (f .words .presence)) 1 (omega arith))
+
 pub keep-act : (k : Kind) (d : Domain) (s : Step) → WellFormed d → Asked k d s → WellFormed (act k d s .after)
 keep-act Allocate d s w a = keep-node w (s .node) (allocating s) (omega (arith, a .process refl))
 keep-act Publish d s w a = keep-published w (s .node) (a .node refl) (omega (arith, a .state _ refl))
@@ -234,7 +273,7 @@ keep-act Remove d s w a =
 keep-act Retire d s w a =
     let m = keep-marked w s (a .process refl) (a .node refl) in
     by-reclaim (λ e. WellFormed (e .after)) (marked d s) (s .process) (λ _. keep-freeing m _)
-    (λ _ _. keep-freeing (keep-absent (keep-path m Fallback (omega arith))) _) (λ _ _. m)
+    (λ _ _. keep-freeing (keep-presence (keep-path m Fallback (omega arith))) _) (λ _ _. m)
 keep-act Drain d s w a =
     keep-process w (s .process) _
     (fits-drained (here d s) (here d s .buffer) refl (process-fits w (s .process) (a .process refl)))
@@ -250,8 +289,11 @@ keep-act Manage d s w a =
     by-manage (λ e. WellFormed (e .after)) d s
     (λ _ _ _. keep-quiescent (keep-path called Fast (omega arith)) p l) (λ _ _ _. called) (λ _ _. keep-quiescent called p l)
     (λ _. keep-counted w s l (calledBy d s) (here d s .presence) (mod-lt (here d s .calls + 1) some') (process-fits w p l .words .presence))
-keep-act ClearPresence d s w a = keep-absent w
+keep-act ClearPresence d s w a = keep-presence w
 keep-act Reinsert d s w a = keep-published w (s .node) (a .node refl) (omega (arith, a .state _ refl))
+keep-act Leave d s w a =
+    keep-left (keep-handed w (s .process) (s .node) (heir d (s .process) (s .node) (a .takesOver' refl) .below)) (s .process) (a .process refl)
+keep-act Join d s w a = keep-joined w (s .process) (a .process refl)
 keep-act Unknown d s w a = w
 
 pub well-formed-step : StepWellFormed

@@ -77,6 +77,16 @@ manage p = stepOf 12 p 0 0 0
 abbrev pub reinsert : ℕ → ℕ → Step
 reinsert p c = stepOf 14 p 0 c 0
 
+abbrev pub clearPresence : Step
+clearPresence = stepOf 13 0 0 0 0
+
+-- process p leaves, and process q takes over
+abbrev pub leave : ℕ → ℕ → Step
+leave p q = stepOf 15 p 0 q 0
+
+abbrev pub join : ℕ → Step
+join p = stepOf 16 p 0 0 0
+
 -- node c comes and goes: process p allocates it for guest g, publishes, removes and retires it
 abbrev pub turnover : ℕ → ℕ → ℕ → List Step
 turnover p c g = allocate p c g ∷ publish p c ∷ remove p c ∷ retire p c ∷ []
@@ -107,12 +117,19 @@ store h v t = record { hazard = h; node = v; time = t }
 abbrev pub hazard : ℕ → ℕ → ℕ → Hazard
 hazard v a k = record { visible = v; assigned = a; validated = k }
 
--- epoch, calls, presence, buffer, hazards
+-- epoch, calls, presence, buffer, hazards; present, and absent
 abbrev pub process : ℕ → ℕ → ℕ → List Pending → List Hazard → Process
-process e k v b hs = record { epoch = e; calls = k; presence = v; buffer = b; hazards = hs }
+process e k v b hs = record { epoch = e; calls = k; presence = v; present = 1; buffer = b; hazards = hs }
+
+abbrev pub asleep : ℕ → ℕ → ℕ → List Pending → List Hazard → Process
+asleep e k v b hs = record { epoch = e; calls = k; presence = v; present = 0; buffer = b; hazards = hs }
 
 abbrev pub free : Node
 free = record { state = 0; owner = 0; guest = 0; retiredAt = 0; limbo = 0 }
+
+-- owner, guest
+abbrev pub allocated : ℕ → ℕ → Node
+allocated p g = record { state = 1; owner = p; guest = g; retiredAt = 0; limbo = 0 }
 
 -- guest
 abbrev pub reachable : ℕ → Node

@@ -4,8 +4,8 @@ use Prim.Native.Nat.{ℕ, _+_, _-_, _*_, _<_, _≤_, max}
 use mathlib.Core.Path.{_≡_}
 use mathlib.Core.Logic.{_≢_}
 use mathlib.Core.Bool.{Bool, true, not, _&&_, _||_, cond}
-use mathlib.Core.List.{List, [], _∷_}
-use lib.ListN.{length}
+use mathlib.Core.List.{List, [], _∷_, _++_}
+use lib.ListN.{length, replicate}
 use lib.Dec.{leb, eqb}
 use Rattle.lists.specs.Tests.{every, count, countFrom}
 use Rattle.model.specs.Params.{Params, InRange, delay}
@@ -135,7 +135,7 @@ pub record Matches (a : Params) (q : Reference) (s : Step) (o : Outcome) (cs : L
   pub freeable : EachFreeable (led q s o) cs
   pub agrees : Agrees a (freeEach (led q s o) cs) (o .after)
 
--- what the bound looks back on: the accepted ticks, and each accepted retire with the ticks before it
+-- what the bound looks back on: the accepted ticks, and each retirement with the ticks before it
 pub record Retirement : Type 0 where
   pub process : ℕ
   pub clock : ℕ
@@ -147,13 +147,23 @@ pub record History : Type 0 where
 abbrev pub noHistory : History
 noHistory = record { ticks = 0; retirements = [] }
 
--- the reference before the step stands by for kinds whose entry depends on it
+-- the unfreed retired nodes of p, on the reference
+abbrev pub unfreed : ℕ → Cell → Bool
+unfreed p x = eqb (x .state) 4 && eqb (x .owner) p
+
+-- what an accepted step adds: a retire (8) one retirement, a tick (11) one tick, a leave (15) a retirement by the second process for each
+-- node that passes to it, as the reference before the step has them
 abbrev pub noted : Reference → Step → History → History
 noted q s h =
     cond (eqb (s .kind) 8)
     (record { ticks = h .ticks; retirements = record { process = s .process; clock = h .ticks } ∷ h .retirements })
     (cond (eqb (s .kind) 11) (record { ticks = h .ticks + 1; retirements = h .retirements })
-    h)
+    (cond (eqb (s .kind) 15)
+    (record {
+      ticks = h .ticks;
+      retirements = replicate (count (unfreed (s .process)) (q .cells)) (record { process = s .node; clock = h .ticks }) ++ h .retirements;
+    })
+    h))
 
 abbrev pub recorded : Reference → Step → Outcome → History → History
 recorded q s o h = cond (eqb (o .refusal) 0) (noted q s h) h
@@ -161,10 +171,6 @@ recorded q s o h = cond (eqb (o .refusal) 0) (noted q s h) h
 -- a retirement by p at a clock of at least t
 abbrev pub retiredSince : ℕ → ℕ → Retirement → Bool
 retiredSince p t r = eqb (r .process) p && leb t (r .clock)
-
--- the unfreed retired nodes of p, on the reference
-abbrev pub unfreed : ℕ → Cell → Bool
-unfreed p x = eqb (x .state) 4 && eqb (x .owner) p
 
 abbrev pub bound : Params → History → ℕ → ℕ
 bound a h p =

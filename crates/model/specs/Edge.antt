@@ -4,15 +4,21 @@ use Prim.Native.Nat.{ℕ, suc}
 use mathlib.Core.List.{List, [], _∷_, _++_}
 use mathlib.Core.Path.{_≡_}
 use lib.ListN.{replicate}
+use Rattle.lists.specs.Tests.{count}
 use Rattle.model.specs.Params.{Params, InRange, wordCount}
 use Rattle.model.specs.State.{Domain, Step}
 use Rattle.model.specs.WellFormed.{WellFormed}
 use Rattle.model.specs.Kinds.{kindCount}
 use Rattle.model.specs.Machine.{step, run, fresh}
-use Rattle.model.specs.Claims.{reachableCount, raises, lowers, acceptedOf}
-use Rattle.model.specs.Cases.{Answer, gives, refuses, oks, answersBy, stepOf, allocate, publish, protect}
-use Rattle.model.specs.Cases.{use', clear, remove, retire, drain, tick, manage, reinsert, turnover, shownToAll}
-use Rattle.model.specs.Cases.{stopAndBack, params, store, hazard, process, free, reachable, removed, retired}
+use Rattle.model.specs.Retire.{retiredBy}
+use Rattle.model.specs.Reference.{Reference, initial}
+use Rattle.model.specs.Claims.{reachableCount, raises, lowers, acceptedOf, led, History, noHistory, recorded, bound}
+use Rattle.model.specs.Cases.{Answer, gives, refuses, oks, answersBy, stepOf, allocate, publish, protect, check}
+use Rattle.model.specs.Cases.{use', clear, remove, retire, drain, flush, tick, manage, clearPresence, reinsert}
+use Rattle.model.specs.Cases.{leave, join}
+use Rattle.model.specs.Cases.{turnover, shownToAll, stopAndBack, params, store, hazard, process, asleep, free}
+use Rattle.model.specs.Cases.{allocated}
+use Rattle.model.specs.Cases.{reachable, removed, retired}
 use Rattle.model.specs.Cases.{domain, stray}
 
 pub data Case : Type 0 where
@@ -22,6 +28,13 @@ pub data Case : Type 0 where
   Run : Domain → List Step → List Answer → Domain → Case
   -- a start, steps, how often they raise and lower the panel, and its number afterwards
   Tally : Domain → List Step → ℕ → ℕ → ℕ → Case
+  -- parameters, steps from a fresh domain by which nothing is freed, a process, its Retired nodes afterwards, and the bound on them
+  Unfreed : Params → List Step → ℕ → ℕ → ℕ → Case
+
+-- what the bound looks back on after steps by which nothing is freed
+abbrev pub noting : Reference → Domain → History → List Step → History
+noting q d h [] = h
+noting q d h (s ∷ ss) = noting (led q s (step d s)) (step d s .after) (recorded q s (step d s) h) ss
 
 -- what is claimed of a case
 abbrev pub Holds : Case → Type 0
@@ -29,12 +42,16 @@ Holds (Length a n) = wordCount a ≡ n
 Holds (Run d ss xs e) = (answersBy step d ss ≡ xs) × (run d ss ≡ e)
 Holds (Tally d ss up down n) =
     (acceptedOf raises d ss ≡ up) × (acceptedOf lowers d ss ≡ down) × (reachableCount (run d ss) ≡ n)
+Holds (Unfreed a ss p n b) =
+    (count (retiredBy p) (run (fresh a) ss .nodes) ≡ n)
+    × (bound a (noting (initial (a .processes) (a .hazards) (a .nodes)) (fresh a) noHistory ss) p ≡ b)
 
 -- no case is about a domain that every call would refuse with 3: parameters in range, a well-formed start
 abbrev pub StartsWell : Case → Type 0
 StartsWell (Length a n) = InRange a
 StartsWell (Run d ss xs e) = WellFormed d
 StartsWell (Tally d ss up down n) = WellFormed d
+StartsWell (Unfreed a ss p n b) = InRange a
 
 -- a clock that cannot go on, and a pending store that is 3 old
 abbrev pub stopped : Domain
@@ -43,12 +60,25 @@ stopped =
     (process 0 0 0 (store 0 1 4294967292 ∷ []) (hazard 0 1 0 ∷ []) ∷ [])
     (free ∷ [])
 
+-- a well-formed domain that no run reaches: process 1 is absent at an epoch of its own, has checked in, shows node 0 to all and has a store pending
+abbrev pub parked : Domain
+parked =
+    domain (params 2 1 2 1 1 1) 2 1 1
+    (process 1 0 0 [] (hazard 0 0 0 ∷ []) ∷ asleep 2 0 1 (store 0 0 2 ∷ []) (hazard 1 0 0 ∷ []) ∷ [])
+    (retired 0 70 0 0 ∷ free ∷ [])
+
+-- every kind that process p is asked 20 at, but for a join
+abbrev pub stepsOf : ℕ → List Step
+stepsOf p =
+    allocate p 0 70 ∷ publish p 0 ∷ protect p 0 0 ∷ check p 0 ∷ use' p 0 ∷ clear p 0 ∷ remove p 0 ∷ retire p 0 ∷ drain p ∷ flush p
+    ∷ manage p ∷ reinsert p 0 ∷ leave p 0 ∷ []
+
 abbrev pub cases : List Case
 cases =
-    -- length at 1, 1, 1 is 45
-    Length (params 1 1 1 1 1 1) 45
-    -- at 16, 8, 256 it is 2121
-    ∷ Length (params 16 8 256 1 1 1) 2121
+    -- length at 1, 1, 1 is 46 (45 before request 3)
+    Length (params 1 1 1 1 1 1) 46
+    -- at 16, 8, 256 it is 2137 (2121 before)
+    ∷ Length (params 16 8 256 1 1 1) 2137
     -- T = 3, stamp 0: a scan at clock 3 keeps the card (the scan is the second retire's, C being 1)
     ∷ Run (fresh (params 1 1 2 3 1 1)) (turnover 0 0 70 ++ replicate 3 tick ++ turnover 0 1 60)
     (oks 11)
@@ -180,4 +210,77 @@ cases =
     (free ∷ retired 0 60 2 0 ∷ []))
     -- the panel: raised by a publish and a repost, lowered by a remove, and by no refused step
     ∷ Tally (fresh (params 2 1 1 1 1 1)) (reinsert 1 0 ∷ stopAndBack 1 ++ reinsert 1 0 ∷ []) 2 1 1
+    -- request 3: a worker that has left gets 20 at every kind, before 6 and 7; so does the join of one that is present
+    ∷ Run (fresh (params 2 1 1 1 1 1)) (join 0 ∷ leave 1 0 ∷ stepsOf 1 ++ protect 1 9 9 ∷ join 2 ∷ leave 2 0 ∷ [])
+    (refuses 20 ∷ gives 0 ∷ replicate 13 (refuses 20) ++ refuses 20 ∷ refuses 5 ∷ refuses 5 ∷ [])
+    (domain (params 2 1 1 1 1 1) 0 0 0
+    (process 0 0 0 [] (hazard 0 0 0 ∷ []) ∷ asleep 0 0 0 [] (hazard 0 0 0 ∷ []) ∷ [])
+    (free ∷ []))
+    -- a leave with an Allocated card, with a Removed one, with an armed slot, with mail: 21; with none of them it is taken
+    ∷ Run (fresh (params 2 1 2 1 1 1))
+    (allocate 1 0 70 ∷ leave 1 0 ∷ publish 1 0 ∷ remove 1 0 ∷ leave 1 0 ∷ reinsert 1 0 ∷ protect 1 0 0 ∷ flush 1 ∷ leave 1 0 ∷ clear 1 0
+    ∷ leave 1 0 ∷ flush 1 ∷ leave 1 0 ∷ [])
+    (gives 0 ∷ refuses 21 ∷ gives 0 ∷ gives 0 ∷ refuses 21 ∷ gives 0 ∷ gives 0 ∷ gives 0 ∷ refuses 21 ∷ gives 0 ∷ refuses 21 ∷ gives 0
+    ∷ gives 0 ∷ [])
+    (domain (params 2 1 2 1 1 1) 0 0 0
+    (process 0 0 0 [] (hazard 0 0 0 ∷ []) ∷ asleep 0 0 0 [] (hazard 0 0 0 ∷ []) ∷ [])
+    (reachable 70 ∷ free ∷ []))
+    -- to itself, to none that there is, to one that is absent: 22, and 21 before it
+    ∷ Run (fresh (params 3 1 1 1 1 1)) (leave 1 1 ∷ leave 1 3 ∷ leave 1 2 ∷ leave 0 1 ∷ allocate 0 0 70 ∷ leave 0 1 ∷ [])
+    (refuses 22 ∷ refuses 22 ∷ gives 0 ∷ refuses 22 ∷ gives 0 ∷ refuses 21 ∷ [])
+    (domain (params 3 1 1 1 1 1) 0 0 0
+    (process 0 0 0 [] (hazard 0 0 0 ∷ []) ∷ asleep 0 0 0 [] (hazard 0 0 0 ∷ []) ∷ process 0 0 0 [] (hazard 0 0 0 ∷ []) ∷ [])
+    (allocated 0 70 ∷ []))
+    -- N = 1: 22
+    ∷ Run (fresh (params 1 1 1 1 1 1)) (leave 0 0 ∷ leave 0 1 ∷ [])
+    (refuses 22 ∷ refuses 22 ∷ [])
+    (domain (params 1 1 1 1 1 1) 0 0 0 (process 0 0 0 [] (hazard 0 0 0 ∷ []) ∷ []) (free ∷ []))
+    -- worker 1 holds the epoch up
+    ∷ Run (fresh (params 2 1 1 1 1 2)) (replicate 4 (manage 0))
+    (oks 4)
+    (domain (params 2 1 1 1 1 2) 0 0 1
+    (process 1 0 1 [] (hazard 0 0 0 ∷ []) ∷ process 0 0 0 [] (hazard 0 0 0 ∷ []) ∷ [])
+    (free ∷ []))
+    -- until it leaves; and it joins at another epoch than it left with
+    ∷ Run (fresh (params 2 1 1 1 1 2)) (replicate 3 (manage 0) ++ leave 1 0 ∷ manage 0 ∷ join 1 ∷ [])
+    (oks 6)
+    (domain (params 2 1 1 1 1 2) 0 0 2
+    (process 1 0 1 [] (hazard 0 0 0 ∷ []) ∷ process 2 0 0 [] (hazard 0 0 0 ∷ []) ∷ [])
+    (free ∷ []))
+    -- a card handed over counts its age from then: at age T the new owner's scan keeps it, one tick later it frees it
+    ∷ Run (fresh (params 2 1 3 1 1 1))
+    (turnover 1 0 70 ++ tick ∷ tick ∷ leave 1 0 ∷ tick ∷ turnover 0 1 60 ++ tick ∷ turnover 0 2 61)
+    (oks 16 ++ gives 1 ∷ [])
+    (domain (params 2 1 3 1 1 1) 4 1 0
+    (process 0 0 0 [] (hazard 0 0 0 ∷ []) ∷ asleep 0 0 0 [] (hazard 0 0 0 ∷ []) ∷ [])
+    (free ∷ retired 0 60 3 0 ∷ retired 0 61 4 0 ∷ []))
+    -- and is in the list of its new owner's epoch: it goes with list 1, not with list 0, which it was in
+    ∷ Run (fresh (params 2 1 1 1 1 2)) (turnover 1 0 70 ++ manage 0 ∷ manage 0 ∷ leave 1 0 ∷ replicate 6 (manage 0))
+    (oks 12 ++ gives 1 ∷ [])
+    (domain (params 2 1 1 1 1 2) 0 0 1
+    (process 1 0 1 [] (hazard 0 0 0 ∷ []) ∷ asleep 0 0 0 [] (hazard 0 0 0 ∷ []) ∷ [])
+    (free ∷ []))
+    -- in the bound they count as retired by the new owner then: of 2 and 5, 4 of which were handed over
+    ∷ Unfreed (params 2 1 5 9 1 1)
+    (turnover 1 0 70 ++ turnover 1 1 71 ++ turnover 1 2 72 ++ turnover 1 3 73 ++ leave 1 0 ∷ turnover 0 4 74) 0 5 7
+    -- on the fallback path worker 1 is waited for
+    ∷ Run (fresh (params 2 1 1 1 1 1)) (turnover 0 0 70 ++ manage 0 ∷ [])
+    (oks 5)
+    (domain (params 2 1 1 1 1 1) 0 1 0
+    (process 0 0 1 [] (hazard 0 0 0 ∷ []) ∷ process 0 0 0 [] (hazard 0 0 0 ∷ []) ∷ [])
+    (retired 0 70 0 0 ∷ []))
+    -- until it leaves
+    ∷ Run (fresh (params 2 1 1 1 1 1)) (turnover 0 0 70 ++ leave 1 0 ∷ manage 0 ∷ [])
+    (oks 6)
+    (domain (params 2 1 1 1 1 1) 0 0 1
+    (process 0 0 1 [] (hazard 0 0 0 ∷ []) ∷ asleep 0 0 0 [] (hazard 0 0 0 ∷ []) ∷ [])
+    (retired 0 70 0 0 ∷ []))
+    -- a desk that no run reaches: the absent worker's slot is on the board, its presence word is cleared, its epoch and its presence are not asked
+    -- for, its mail is; it is no heir; joined, it keeps its mail, and so does not leave
+    ∷ Run parked
+    (turnover 0 1 60 ++ clearPresence ∷ manage 0 ∷ tick ∷ tick ∷ leave 0 1 ∷ use' 1 0 ∷ join 0 ∷ join 1 ∷ leave 1 0 ∷ leave 0 1 ∷ [])
+    (oks 7 ++ refuses 16 ∷ refuses 22 ∷ refuses 20 ∷ refuses 20 ∷ gives 0 ∷ refuses 21 ∷ gives 0 ∷ [])
+    (domain (params 2 1 2 1 1 1) 3 0 2
+    (asleep 0 0 0 [] (hazard 0 0 0 ∷ []) ∷ process 2 0 0 (store 0 0 2 ∷ []) (hazard 1 0 0 ∷ []) ∷ [])
+    (retired 1 70 3 2 ∷ retired 1 60 3 2 ∷ []))
     ∷ []

@@ -12,7 +12,7 @@ use Rattle.model.specs.Retire.{Effect, effect, retiredBy, freeing}
 abbrev pub expired : Domain → ℕ → ℕ → Node → Bool
 expired d p c n = retiredBy p n && eqb (n .limbo) (d .epoch)
 
--- all local epochs equal the global one
+-- all local epochs of present processes equal the global one
 abbrev pub caughtUp : Domain → Bool
 caughtUp d = every (λ x. implies (inEpochs x) (eqb (x .epoch) (d .epoch))) (d .processes)
 
@@ -29,7 +29,7 @@ quiescent d p =
     (cond (caughtUp d) (effect 0 (withEpoch d (nextEpoch (d .epoch)))) (effect 0 d))
     (adopt d p)
 
--- all presence words are 1
+-- all presence words of present processes are 1
 abbrev pub allCheckedIn : Domain → Bool
 allCheckedIn d = every (λ x. implies (inPresence x) (eqb (x .presence) 1)) (d .processes)
 

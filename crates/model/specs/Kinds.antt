@@ -9,13 +9,13 @@ use Rattle.model.specs.State.{Free, Allocated, Reachable, Removed}
 
 -- Flush is the paper's rooster, ClearPresence its roll call, Reinsert its repost
 pub data Kind : Type 0 where
-  Allocate Publish Protect Check Use Clear Remove Retire Drain Flush Tick Manage ClearPresence Reinsert Unknown : Kind
+  Allocate Publish Protect Check Use Clear Remove Retire Drain Flush Tick Manage ClearPresence Reinsert Leave Join Unknown : Kind
 
 -- every kind that there is, in the order of their numbers from 1 on. How many there are is said by this list alone
 abbrev pub kinds : List Kind
 kinds =
     Allocate ∷ Publish ∷ Protect ∷ Check ∷ Use ∷ Clear ∷ Remove ∷ Retire ∷ Drain ∷ Flush ∷ Tick ∷ Manage ∷ ClearPresence
-    ∷ Reinsert ∷ []
+    ∷ Reinsert ∷ Leave ∷ Join ∷ []
 
 abbrev pub kindCount : ℕ
 kindCount = length kinds
@@ -40,6 +40,8 @@ numberOf Tick = 11
 numberOf Manage = 12
 numberOf ClearPresence = 13
 numberOf Reinsert = 14
+numberOf Leave = 15
+numberOf Join = 16
 numberOf Unknown = 0
 
 abbrev pub is : Kind → Kind → Bool
@@ -102,4 +104,7 @@ rowOf Tick = reading Unread Unread Unread Unread
 rowOf Manage = reading ProcessId Unread Unread Unread
 rowOf ClearPresence = reading Unread Unread Unread Unread
 rowOf Reinsert = owning (needing Removed (reading ProcessId Unread NodeId Unread))
+-- its node field is a second process, which takes over
+rowOf Leave = reading ProcessId Unread ProcessId Unread
+rowOf Join = reading ProcessId Unread Unread Unread
 rowOf Unknown = reading Unread Unread Unread Unread

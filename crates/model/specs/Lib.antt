@@ -5,6 +5,7 @@ pub mod Kinds
 pub mod Hazards
 pub mod Retire
 pub mod Epochs
+pub mod Leave
 pub mod Questions
 pub mod Machine
 pub mod Reference

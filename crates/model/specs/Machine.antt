@@ -8,10 +8,11 @@ use Rattle.model.specs.Params.{Params}
 use Rattle.model.specs.State.{Node, Domain, Step, Allocated, Reachable, Removed, Fast, freeNode}
 use Rattle.model.specs.State.{emptyHazard, nodeOf, setNode, setProcess, withClock, clearPresence}
 use Rattle.model.specs.Kinds.{Kind, kindOf, Allocate, Publish, Protect, Check, Use, Clear, Remove, Retire}
-use Rattle.model.specs.Kinds.{Drain, Flush, Tick, Manage, ClearPresence, Reinsert, Unknown}
+use Rattle.model.specs.Kinds.{Drain, Flush, Tick, Manage, ClearPresence, Reinsert, Leave, Join, Unknown}
 use Rattle.model.specs.Hazards.{here, target, assign, validating, drained, flushed}
 use Rattle.model.specs.Retire.{Effect, effect, marked, reclaim}
 use Rattle.model.specs.Epochs.{manage}
+use Rattle.model.specs.Leave.{leave, join}
 use Rattle.model.specs.Questions.{refusalOf}
 
 -- the refusal number, 0 for accepted; the value; and the domain afterwards
@@ -54,6 +55,8 @@ act Tick d s = effect 0 (withClock d (d .clock + 1))
 act Manage d s = manage d s
 act ClearPresence d s = effect 0 (clearPresence d)
 act Reinsert d s = effect 0 (setNode d (s .node) (publishing (nodeOf d (s .node))))
+act Leave d s = effect 0 (leave d (s .process) (s .node))
+act Join d s = effect 0 (join d (s .process))
 act Unknown d s = effect 0 d
 
 -- a refusal number turns the effect away
@@ -71,7 +74,7 @@ abbrev pub run : Domain → List Step → Domain
 run d [] = d
 run d (s ∷ ss) = run (step d s .after) ss
 
--- the parameters, and 0 elsewhere
+-- the parameters, every process present, and 0 elsewhere
 unfoldable pub fresh : Params → Domain
 fresh a =
     record {
@@ -80,6 +83,6 @@ fresh a =
       path = Fast;
       epoch = 0;
       processes = replicate (a .processes)
-          (record { epoch = 0; calls = 0; presence = 0; buffer = []; hazards = replicate (a .hazards) emptyHazard });
+          (record { epoch = 0; calls = 0; presence = 0; present = 1; buffer = []; hazards = replicate (a .hazards) emptyHazard });
       nodes = replicate (a .nodes) freeNode;
     }

@@ -1,26 +1,30 @@
--- Twenty plausible mistakes, each as a machine that is wrong in one place, with a closed schedule on which it answers otherwise than the
+-- Twenty-seven plausible mistakes, each as a machine that is wrong in one place, with a closed schedule on which it answers otherwise than the
 -- rules, or leaves another number in the domain. Both lists are written by hand. Assumes nothing.
 use Prim.Native.Nat.{ℕ, suc, _-_}
-use mathlib.Core.Bool.{Bool, true, _&&_, _||_, cond}
+use mathlib.Core.Bool.{Bool, true, not, _&&_, _||_, cond}
 use mathlib.Core.List.{List, [], _∷_, _++_, map}
 use mathlib.Core.Path.{_≡_}
 use mathlib.Core.Logic.{_≢_}
+use lib.ListN.{replicate}
 use lib.Dec.{leb, ltb, eqb}
 use Rattle.lists.specs.Tests.{every, count, lacks}
 use Rattle.model.specs.Params.{Params, delay}
 use Rattle.model.specs.State.{Pending, Hazard, Process, Node, Domain, Step, Reachable, Removed, Retired, Fast}
 use Rattle.model.specs.State.{Fallback, nodeOf, processOf, setNode, withNodes, withPath, withStores, setProcess}
-use Rattle.model.specs.State.{nextEpoch}
-use Rattle.model.specs.Kinds.{Kind, is, kindOf, Protect, Check, Clear, Retire, Tick, Manage, Reinsert}
+use Rattle.model.specs.State.{withEpoch, withPresent, isPresent, nextEpoch}
+use Rattle.model.specs.Kinds.{Kind, is, kindOf, Protect, Check, Clear, Retire, Tick, Manage, Reinsert, Leave}
+use Rattle.model.specs.Kinds.{Join}
 use Rattle.model.specs.Hazards.{here, target}
 use Rattle.model.specs.Retire.{Effect, effect, retiredBy, ownFrom, visibleTo, aged, due, freeing, marked}
-use Rattle.model.specs.Retire.{overfull, fallBack}
+use Rattle.model.specs.Retire.{retiring, overfull, fallBack}
+use Rattle.model.specs.Epochs.{counted}
+use Rattle.model.specs.Leave.{ownedBy}
 use Rattle.model.specs.Questions.{ask, firstNo, questions, refusalOf}
 use Rattle.model.specs.Machine.{Outcome, act, answered, step, fresh}
 use Rattle.model.specs.Claims.{reachableCount}
 use Rattle.model.specs.Cases.{Answer, gives, refuses, oks, answersBy, runBy, allocate, publish, protect, check}
-use Rattle.model.specs.Cases.{use', clear, remove, retire, flush, tick, manage, reinsert, turnover, shownToAll}
-use Rattle.model.specs.Cases.{stopAndBack, params, stray}
+use Rattle.model.specs.Cases.{use', clear, remove, retire, flush, tick, manage, reinsert, leave, join}
+use Rattle.model.specs.Cases.{turnover, shownToAll, stopAndBack, params, stray}
 
 -- ---- machines that are right but for one place
 
@@ -28,13 +32,16 @@ use Rattle.model.specs.Cases.{stopAndBack, params, stray}
 abbrev pub doing : (Kind → Domain → Step → Effect) → Domain → Step → Outcome
 doing f d s = answered (refusalOf (kindOf (s .kind)) d s) d (f (kindOf (s .kind)) d s)
 
--- question n of kind j answered as f answers it
-abbrev pub asking : ℕ → Kind → (Domain → Step → Bool) → Domain → Step → Outcome
-asking n j f d s =
+-- question n of the kinds ks, or of kind j alone, answered as f answers it
+abbrev pub askingOf : ℕ → (Kind → Bool) → (Domain → Step → Bool) → Domain → Step → Outcome
+askingOf n ks f d s =
     answered
-    (firstNo (map (λ q. cond (eqb (q .number) n && is (kindOf (s .kind)) j) (ask n (f d s)) q)
+    (firstNo (map (λ q. cond (eqb (q .number) n && ks (kindOf (s .kind))) (ask n (f d s)) q)
     (questions (kindOf (s .kind)) d s)))
     d (act (kindOf (s .kind)) d s)
+
+abbrev pub asking : ℕ → Kind → (Domain → Step → Bool) → Domain → Step → Outcome
+asking n j = askingOf n (λ k. is k j)
 
 -- after a retire: the switch where full says so, as switch does it, and a scan that frees what passes
 abbrev pub reclaimBy : (Domain → ℕ → Bool) → (Domain → Domain) → (Domain → ℕ → ℕ → Node → Bool) → Domain → ℕ → Effect
@@ -181,6 +188,52 @@ reinsertLosesGuest =
 abbrev pub reinsertNotRaised : Domain → Step → Outcome
 reinsertNotRaised = reinsertBy (λ n. n)
 
+-- ---- seven, in leaving and joining
+
+-- each Retired node of the leaver left as f leaves it, told the second process, the clock and that process's epoch
+abbrev pub leaveBy : (ℕ → ℕ → ℕ → Node → Node) → Domain → Step → Outcome
+leaveBy f =
+    doing (λ k d s.
+    cond (is k Leave)
+    (effect 0 (withNodes (act k d s .after)
+    (map (λ n. cond (retiredBy (s .process) n) (f (s .node) (d .clock) (processOf d (s .node) .epoch) n) n) (d .nodes))))
+    (act k d s))
+
+-- the time of retirement is kept
+abbrev pub leaveKeepsStamp : Domain → Step → Outcome
+leaveKeepsStamp = leaveBy (λ q t e n. retiring (n .retiredAt) e (ownedBy q n))
+
+-- the limbo list is kept
+abbrev pub leaveKeepsLimbo : Domain → Step → Outcome
+leaveKeepsLimbo = leaveBy (λ q t e n. retiring t (n .limbo) (ownedBy q n))
+
+-- the leaver's nodes are left behind
+abbrev pub leavesNodesBehind : Domain → Step → Outcome
+leavesNodesBehind = leaveBy (λ q t e n. n)
+
+-- a manage as the rules have it, taken back by f where all does not hold of every process, absent ones too
+abbrev pub manageUnless : (Domain → Process → Bool) → (Domain → Step → Effect → Effect) → Domain → Step → Outcome
+manageUnless all f =
+    doing (λ k d s. cond (is k Manage && not (every (all d) (d .processes))) (f d s (act k d s)) (act k d s))
+
+-- the epoch of an absent process is waited for
+abbrev pub waitsForEpoch : Domain → Step → Outcome
+waitsForEpoch = manageUnless (λ d x. eqb (x .epoch) (d .epoch)) (λ d s e. effect (e .value) (withEpoch (e .after) (d .epoch)))
+
+-- on the fallback path the presence of an absent process is waited for
+abbrev pub waitsForPresence : Domain → Step → Outcome
+waitsForPresence =
+    manageUnless (λ d x. eqb (d .path) Fast || isPresent x || eqb (x .presence) 1) (λ d s e. effect 0 (counted d s 0 1))
+
+-- 20 is asked of leave and join only
+abbrev pub absentActs : Domain → Step → Outcome
+absentActs = askingOf 20 (λ k. not (is k Leave || is k Join)) (λ d s. true)
+
+-- a process joins with the epoch that it has
+abbrev pub joinKeepsEpoch : Domain → Step → Outcome
+joinKeepsEpoch =
+    doing (λ k d s. cond (is k Join) (effect 0 (setProcess d (s .process) (withPresent (here d s) 1))) (act k d s))
+
 -- ---- schedules
 
 pub record Mistake : Type 0 where
@@ -290,6 +343,32 @@ mistakes =
     -- accepted, and the panel shows 0 where it should show 1
     ∷ mistakeLeft reinsertNotRaised (params 2 1 1 1 1 1) (stopAndBack 0) reachableCount
     (oks 6 ++ gives 1 ∷ []) (oks 6 ++ gives 0 ∷ [])
+    -- node 0 is 2 old when it is handed over, and then 0
+    ∷ mistake leaveKeepsStamp (params 2 1 2 1 1 1) (turnover 1 0 70 ++ tick ∷ tick ∷ leave 1 0 ∷ [] ++ turnover 0 1 60)
+    (oks 11) (oks 10 ++ gives 1 ∷ [])
+    -- process 1 is one epoch ahead of process 0, which takes over; process 2 has validated node 0
+    ∷ mistake leaveKeepsLimbo (params 3 1 1 1 1 2)
+    (manage 1 ∷ manage 1 ∷ allocate 1 0 70 ∷ publish 1 0 ∷ protect 2 0 0 ∷ check 2 0 ∷ remove 1 0 ∷ retire 1 0 ∷ leave 1 0 ∷ manage 0
+    ∷ allocate 0 0 80 ∷ publish 0 0 ∷ use' 2 0 ∷ [])
+    (oks 10 ++ kept) (oks 9 ++ gives 1 ∷ [] ++ freed)
+    -- nobody frees what is the absent process's
+    ∷ mistake leavesNodesBehind (params 2 1 2 1 1 1) (turnover 1 0 70 ++ leave 1 0 ∷ tick ∷ tick ∷ [] ++ turnover 0 1 60)
+    (oks 10 ++ gives 1 ∷ []) (oks 11)
+    -- the epochs do not go round
+    ∷ mistake waitsForEpoch (params 2 1 1 1 1 2) (turnover 0 0 70 ++ leave 1 0 ∷ replicate 6 (manage 0))
+    (oks 10 ++ gives 1 ∷ []) (oks 11)
+    -- the path stays fallback
+    ∷ mistake waitsForPresence (params 2 1 1 1 1 1) (turnover 0 0 70 ++ leave 1 0 ∷ replicate 6 (manage 0))
+    (oks 10 ++ gives 1 ∷ []) (oks 11)
+    -- the absent process validates node 0, and the epochs go round without it
+    ∷ mistake absentActs (params 2 1 1 1 1 2) (leave 1 0 ∷ claimed ++ replicate 6 (manage 0) ++ reused)
+    (oks 3 ++ refuses 20 ∷ refuses 20 ∷ [] ++ oks 7 ++ gives 1 ∷ gives 0 ∷ gives 0 ∷ refuses 20 ∷ [])
+    (oks 12 ++ gives 1 ∷ [] ++ freed)
+    -- at global epoch 2 process 1 joins at 0, puts node 0 on that list, and comes to it while process 0 has node 0 validated
+    ∷ mistake joinKeepsEpoch (params 2 1 1 1 1 2)
+    (leave 1 0 ∷ replicate 4 (manage 0) ++ join 1 ∷ allocate 1 0 70 ∷ publish 1 0 ∷ protect 0 0 0 ∷ check 0 0 ∷ remove 1 0 ∷ retire 1 0
+    ∷ replicate 3 (manage 1) ++ allocate 1 0 80 ∷ publish 1 0 ∷ use' 0 0 ∷ [])
+    (oks 15 ++ kept) (oks 14 ++ gives 1 ∷ [] ++ freed)
     ∷ []
 
 -- ---- what is claimed of a mistake

@@ -64,7 +64,7 @@ abbrev pub headWidth : ℕ
 headWidth = 9
 
 abbrev pub leadWidth : ℕ
-leadWidth = 4
+leadWidth = 5
 
 abbrev pub hazardWidth : ℕ
 hazardWidth = 3

@@ -1,4 +1,4 @@
--- The questions before a step, numbers 4 to 17 in the paper's order; ranges and states are decided by the table. Assumes nothing.
+-- The questions before a step, numbers 4 to 17 and 20 to 22 in the papers' order; ranges and states are decided by the table. Assumes nothing.
 use Prim.Native.Nat.{ℕ}
 use mathlib.Core.Bool.{Bool, not, _||_, cond}
 use mathlib.Core.List.{List, [], _∷_}
@@ -8,8 +8,9 @@ use Rattle.lists.specs.Tests.{every, implies}
 use Rattle.model.specs.Params.{bufferSize, lastClock}
 use Rattle.model.specs.State.{Domain, Step, Reachable, nodeOf}
 use Rattle.model.specs.Kinds.{Kind, is, means, meets, rowOf, ProcessId, HazardId, NodeId, Protect, Check}
-use Rattle.model.specs.Kinds.{Use, Clear, Drain, Tick, Manage, Unknown}
+use Rattle.model.specs.Kinds.{Use, Clear, Drain, Tick, Manage, Leave, Join, Unknown}
 use Rattle.model.specs.Hazards.{here, pointer, target, young, unassigned}
+use Rattle.model.specs.Leave.{unburdened, takesOver}
 
 -- a question by its number, and whether its answer is yes
 pub record Question : Type 0 where
@@ -24,10 +25,17 @@ abbrev pub firstNo : List Question → ℕ
 firstNo [] = 0
 firstNo (q ∷ qs) = cond (q .yes') (firstNo qs) (q .number)
 
+-- what the word `present` of its process must be to a kind: a process that is present does not join, and an absent one does nothing else
+abbrev pub presentFor : Kind → ℕ
+presentFor k = cond (is k Join) 0 1
+
 abbrev pub questions : Kind → Domain → Step → List Question
 questions k d s =
     ask 4 (not (is k Unknown))
     ∷ ask 5 (implies (means (rowOf k .process) ProcessId) (ltb (s .process) (d .params .processes)))
+    ∷ ask 20 (implies (means (rowOf k .process) ProcessId) (eqb (here d s .present) (presentFor k)))
+    ∷ ask 21 (implies (is k Leave) (unburdened d (s .process)))
+    ∷ ask 22 (implies (is k Leave) (takesOver d (s .process) (s .node)))
     ∷ ask 6 (implies (means (rowOf k .hazard) HazardId) (ltb (s .hazard) (d .params .hazards)))
     ∷ ask 7 (implies (means (rowOf k .node) NodeId) (ltb (s .node) (d .params .nodes)))
     ∷ ask 8 (meets (rowOf k .needs) (nodeOf d (s .node) .state))

@@ -2,8 +2,8 @@
 -- It has records and questions of its own, so that a mistake in the rules cannot hide in it too. Assumes nothing.
 use Prim.Native.Nat.{ℕ, suc, _-_}
 use mathlib.Core.Path.{_≡_}
-use mathlib.Core.Bool.{Bool, not, cond}
-use mathlib.Core.List.{List, [], _∷_}
+use mathlib.Core.Bool.{Bool, not, _&&_, cond}
+use mathlib.Core.List.{List, [], _∷_, map}
 use lib.ListN.{getD, set, replicate}
 use lib.Dec.{ltb, eqb}
 
@@ -64,6 +64,11 @@ abbrev pub setCell : Reference → ℕ → Cell → Reference
 setCell q c x =
     record { processes = q .processes; hazards = q .hazards; nodes = q .nodes; cells = set (q .cells) c x; pointers = q .pointers }
 
+-- every card replaced by f of it
+abbrev pub withEachCell : Reference → (Cell → Cell) → Reference
+withEachCell q f =
+    record { processes = q .processes; hazards = q .hazards; nodes = q .nodes; cells = map f (q .cells); pointers = q .pointers }
+
 abbrev pub setPointer : Reference → ℕ → ℕ → Pointer → Reference
 setPointer q p h x =
     record {
@@ -100,7 +105,7 @@ state? k q s = eqb (cellOf q s .state) k
 abbrev pub owner? : Reference → Command → Bool
 owner? q s = eqb (cellOf q s .owner) (s .process)
 
--- what it asks itself at steps 1 to 8 and 14; nothing at any other
+-- what it asks itself at steps 1 to 8 and 14 to 16; nothing at any other
 unfoldable pub asks : Reference → Command → List Bool
 asks q s =
     cond (eqb (s .kind) 1) (process? q s ∷ node? q s ∷ state? 0 q s ∷ [])
@@ -113,9 +118,15 @@ asks q s =
     (cond (eqb (s .kind) 7) (process? q s ∷ node? q s ∷ state? 2 q s ∷ [])
     (cond (eqb (s .kind) 8) (process? q s ∷ node? q s ∷ state? 3 q s ∷ owner? q s ∷ [])
     (cond (eqb (s .kind) 14) (process? q s ∷ node? q s ∷ state? 3 q s ∷ owner? q s ∷ [])
-    []))))))))
+    (cond (eqb (s .kind) 15) (process? q s ∷ [])
+    (cond (eqb (s .kind) 16) (process? q s ∷ [])
+    []))))))))))
 
--- ---- what it does at steps 1 to 8 and 14; nothing at any other
+-- a Retired card of worker p becomes one of worker r's
+abbrev pub passed : ℕ → ℕ → Cell → Cell
+passed p r x = cond (eqb (x .state) 4 && eqb (x .owner) p) (record { state = 4; owner = r; guest = x .guest }) x
+
+-- ---- what it does at steps 1 to 4, 6 to 8, 14 and 15, where the card field is a worker; nothing at any other
 unfoldable pub follow : Reference → Command → Reference
 follow q s =
     cond (eqb (s .kind) 1) (setCell q (s .node) (record { state = 1; owner = s .process; guest = s .guest }))
@@ -127,7 +138,8 @@ follow q s =
     (cond (eqb (s .kind) 7) (setCell q (s .node) (record { state = 3; owner = s .process; guest = cellOf q s .guest }))
     (cond (eqb (s .kind) 8) (setCell q (s .node) (record { state = 4; owner = cellOf q s .owner; guest = cellOf q s .guest }))
     (cond (eqb (s .kind) 14) (setCell q (s .node) (record { state = 2; owner = 0; guest = cellOf q s .guest }))
-    q)))))))
+    (cond (eqb (s .kind) 15) (withEachCell q (passed (s .process) (s .node)))
+    q))))))))
 
 -- the value of a use
 unfoldable pub valueOf : Reference → Command → ℕ

@@ -1,9 +1,10 @@
 -- A domain (the paper's desk) as records: its processes (workers), their hazards (slots) and store buffers (mail), and its nodes (cards).
 -- Assumes nothing.
 use Prim.Native.Nat.{ℕ, _+_, _%_}
-use mathlib.Core.Bool.{Bool, true}
+use mathlib.Core.Bool.{Bool}
 use mathlib.Core.List.{List, [], map}
 use lib.ListN.{getD, set}
+use lib.Dec.{eqb}
 use Rattle.model.specs.Params.{Params}
 
 -- a store into a hazard that other processes do not see yet (mail entry). A node is stored as its number + 1, and 0 for none
@@ -25,7 +26,10 @@ pub record Process : Type 0 where
   pub epoch : ℕ
   -- manage calls, modulo the quiescence threshold (call count)
   pub calls : ℕ
+  -- 1 after a manage call that acted (on the fallback path: checked in)
   pub presence : ℕ
+  -- 1 while it takes part, 0 from its leave to its join
+  pub present : ℕ
   -- the store buffer, oldest store first (mail)
   pub buffer : List Pending
   pub hazards : List Hazard
@@ -88,7 +92,7 @@ abbrev pub emptyHazard : Hazard
 emptyHazard = record { visible = 0; assigned = 0; validated = 0 }
 
 abbrev pub noProcess : Process
-noProcess = record { epoch = 0; calls = 0; presence = 0; buffer = []; hazards = [] }
+noProcess = record { epoch = 0; calls = 0; presence = 0; present = 0; buffer = []; hazards = [] }
 
 abbrev pub nodeOf : Domain → ℕ → Node
 nodeOf d c = getD (d .nodes) c freeNode
@@ -127,29 +131,38 @@ setNode d c n = withNodes d (set (d .nodes) c n)
 abbrev pub setProcess : Domain → ℕ → Process → Domain
 setProcess d p x = withProcesses d (set (d .processes) p x)
 
--- a process with another buffer and hazards; with other words
+-- a process with another buffer and hazards; with other words; present or absent
 abbrev pub withStores : Process → List Pending → List Hazard → Process
-withStores x b hs = record { epoch = x .epoch; calls = x .calls; presence = x .presence; buffer = b; hazards = hs }
+withStores x b hs =
+    record { epoch = x .epoch; calls = x .calls; presence = x .presence; present = x .present; buffer = b; hazards = hs }
 
 abbrev pub withWords : Process → ℕ → ℕ → ℕ → Process
-withWords x e k v = record { epoch = e; calls = k; presence = v; buffer = x .buffer; hazards = x .hazards }
+withWords x e k v =
+    record { epoch = e; calls = k; presence = v; present = x .present; buffer = x .buffer; hazards = x .hazards }
+
+abbrev pub withPresent : Process → ℕ → Process
+withPresent x t =
+    record { epoch = x .epoch; calls = x .calls; presence = x .presence; present = t; buffer = x .buffer; hazards = x .hazards }
 
 abbrev pub setHazard : Process → ℕ → Hazard → List Hazard
 setHazard x h y = set (x .hazards) h y
 
--- ---- who takes part: today every process does, in everything
+-- ---- who takes part: a process that is present
+
+abbrev pub isPresent : Process → Bool
+isPresent x = eqb (x .present) 1
 
 -- who may take a step
 abbrev pub acts : Process → Bool
-acts x = true
+acts x = isPresent x
 
 -- whose presence word is looked at
 abbrev pub inPresence : Process → Bool
-inPresence x = true
+inPresence x = isPresent x
 
 -- whose local epoch is looked at
 abbrev pub inEpochs : Process → Bool
-inEpochs x = true
+inEpochs x = isPresent x
 
 -- epochs go round: how many there are, and the last one
 abbrev pub epochCount : ℕ
@@ -162,9 +175,9 @@ lastEpoch = 2
 abbrev pub nextEpoch : ℕ → ℕ
 nextEpoch e = (e + 1) % epochCount
 
--- all presence words 0
-abbrev pub absent : Process → Process
-absent x = withWords x (x .epoch) (x .calls) 0
+-- all presence words 0, of absent processes too
+abbrev pub withoutPresence : Process → Process
+withoutPresence x = withWords x (x .epoch) (x .calls) 0
 
 abbrev pub clearPresence : Domain → Domain
-clearPresence d = withProcesses d (map absent (d .processes))
+clearPresence d = withProcesses d (map withoutPresence (d .processes))

@@ -35,6 +35,7 @@ pub record WordsFit (a : Params) (x : Process) : Type 0 where
   pub epoch : x .epoch ≤ lastEpoch
   pub calls : x .calls < a .quiescenceThreshold
   pub presence : x .presence ≤ 1
+  pub present : x .present ≤ 1
 
 pub record StoresFit (a : Params) (clock : ℕ) (x : Process) : Type 0 where
   pub room : length (x .buffer) ≤ bufferSize

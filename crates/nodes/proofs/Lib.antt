@@ -1,4 +1,6 @@
 pub mod Words
 pub mod Counting
+pub mod Passing
+pub mod Mapping
 pub mod Sweeping
 pub mod ByState

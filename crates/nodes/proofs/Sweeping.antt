@@ -22,7 +22,7 @@ use Rattle.layout.specs.Nodes.{nodesWords}
 use Rattle.layout.specs.Nodes.{nodesIn}
 use Rattle.nodes.specs.Part.{nodeIn, Part, withNode}
 use Rattle.nodes.specs.Sweeps.{Places, freedAt, Swept}
-use Rattle.nodes.proofs.Words.{nodes-length, nodes-back, part-rows, part-words}
+use Rattle.nodes.proofs.Words.{nodes-length, nodes-back, part-words, part-with}
 
 -- ---- the first pass
 
@@ -159,7 +159,7 @@ module _ {m : ℕ} {places r₀ r : List ℕ} {count j : ℕ} (h : Freeing m pla
       → Freeing m places r₀ r′ count (suc j)
   frees-more {c = c} k l q e =
       record {
-        part = rw e (part-rows (set (nodesIn m r) c freeNode) (length-set (nodesIn m r) c freeNode ∙ nodes-length m r) (h .part .few));
+        part = rw e (part-with (h .part) c freeNode);
         low = l;
         words =
             e ∙ (λ t. nodesWords (set (now-nodes t) (q t) freeNode))

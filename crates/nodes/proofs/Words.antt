@@ -4,8 +4,8 @@ use mathlib.Core.List.{List, [], _∷_, append-nil}
 use mathlib.Core.Path.{_≡_, refl, ap, sym, _∙_}
 use native.Mathlib.Omega.{arith}
 use native.Mathlib.Nat.{add-zero}
-use lib.ListN.{length, getD, set}
-use lib.Seq.{sets}
+use lib.ListN.{length, getD, set, length-set}
+use lib.Seq.{getD-set-same, set-getD, set-set, sets}
 use Rattle.lists.proofs.Rows.{length-rows, rows-getD, rows-set, rows-sets, length-unrows, unrows-rows}
 use Rattle.model.specs.Params.{mostNodes, nodeWidth}
 use Rattle.model.specs.State.{Node, freeNode}
@@ -29,6 +29,20 @@ module _ {m : ℕ} {r : List ℕ} (h : Part m r) where
   pub part-words : r ≡ nodesWords (nodesIn m r)
   part-words = sym (nodes-forth m r (h .long))
 
+  pub part-kept : (c : ℕ) → r ≡ withNode m r c (nodeIn m r c)
+  part-kept c = part-words ∙ ap nodesWords (sym (set-getD (nodesIn m r) c freeNode))
+
+  -- node c written: a part again, of the nodes with that one
+  module _ (c : ℕ) (n : Node) where
+    many : length (set (nodesIn m r) c n) ≡ m
+    many = length-set (nodesIn m r) c n ∙ nodes-length m r
+
+    pub part-with : Part m (withNode m r c n)
+    part-with = part-rows (set (nodesIn m r) c n) many (h .few)
+
+    pub nodes-with : nodesIn m (withNode m r c n) ≡ set (nodesIn m r) c n
+    nodes-with = nodes-back (set (nodesIn m r) c n) many
+
   -- node c, whose words start at a
   module _ {c a : ℕ} (l : c < m) (e : a ≡ nodeWidth * c) where
     inside : c < length (nodesIn m r)
@@ -42,10 +56,19 @@ module _ {m : ℕ} {r : List ℕ} (h : Part m r) where
         ap (λ (w : List ℕ). getD w (a + j) 0) part-words
         ∙ rw (at j) (rows-getD nodeWords nodeWidth freeNode (nodesIn m r) c j 0 (λ _ _. refl) inside k)
 
+    -- a word of it, once the node is n
+    pub word-more : {r′ : List ℕ} (n : Node) → r′ ≡ withNode m r c n → (j v : ℕ) (n′ : Node) → j < nodeWidth → set (nodeWords n) j v ≡ nodeWords n′
+        → set r′ (a + j) v ≡ withNode m r c n′
+    word-more n e j v n′ k q =
+        let ns : List Node = set (nodesIn m r) c n in
+        let there : c < length ns = rw (many c n) l in
+        let same = getD-set-same (nodesIn m r) c n freeNode inside in
+        ap (λ (w : List ℕ). set w (a + j) v) e
+        ∙ rw (at j) (rows-set nodeWords nodeWidth freeNode ns c j v n′ (λ _ _. refl) there k (ap (λ (x : Node). set (nodeWords x) j v) same ∙ q))
+        ∙ ap nodesWords (set-set (nodesIn m r) c n n′)
+
     pub word-set : (j v : ℕ) (n : Node) → j < nodeWidth → set (nodeWords (nodeIn m r c)) j v ≡ nodeWords n → set r (a + j) v ≡ withNode m r c n
-    word-set j v n k q =
-        ap (λ (w : List ℕ). set w (a + j) v) part-words
-        ∙ rw (at j) (rows-set nodeWords nodeWidth freeNode (nodesIn m r) c j v n (λ _ _. refl) inside k q)
+    word-set = word-more (nodeIn m r c) (part-kept c)
 
     pub node-set : (n : Node) → sets r a (nodeWords n) ≡ withNode m r c n
     node-set n =

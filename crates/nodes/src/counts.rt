@@ -1,15 +1,17 @@
-// Counts over the nodes' part of a domain's words: Reachable nodes, and the Retired nodes of a process.
+// Counts over the nodes' part of a domain's words: Reachable nodes, and the Retired nodes of a process; and whether a process has a
+// node under way.
 use layout::NodeId;
 use layout::ProcessId;
 use layout::words::node_word;
 use layout::words::states;
 ghost use mathlib.Core.Path.{_≡_};
-ghost use mathlib.Core.Bool.{cond};
+ghost use mathlib.Core.Bool.{not, cond};
 ghost use Prim.Native.Nat.{_+_, _≤_, _<_};
 ghost use lib.Dec.{eqb};
-ghost use Rattle.lists.specs.Tests.{count};
+ghost use Rattle.lists.specs.Tests.{every, count};
 ghost use Rattle.model.specs.State.{Reachable};
 ghost use Rattle.model.specs.Retire.{retiredBy};
+ghost use Rattle.model.specs.Leave.{underWay};
 ghost use Rattle.layout.specs.Nodes.{nodesIn};
 ghost use Rattle.nodes.specs.Part.{nodeIn, Part};
 
@@ -56,4 +58,29 @@ pub fn retired_count(nodes: &[u32], m: u32, p: ProcessId) -> u32
         i += 1;
     }
     retired
+}
+
+// Does p have node c under way: is it Allocated or Removed, and p's own?
+fn under_way(nodes: &[u32], m: u32, c: NodeId, p: ProcessId) -> bool
+    requires { ⌜ Part m (now nodes) × (c .0 < m) ⌝ }
+    ensures { λ r. ⌜ r ≡ underWay (p .0) (nodeIn m (now (nodes .entry)) (c .0)) ⌝ }
+{
+    let at = crate::offset(m, c);
+    let state = crate::state_of(nodes, m, c);
+    ((state == states::ALLOCATED) | (state == states::REMOVED))
+        & (nodes[at + node_word::OWNER] == p.0)
+}
+
+// Has p no node under way: none that is Allocated or Removed and its own?
+pub fn none_under_way(nodes: &[u32], m: u32, p: ProcessId) -> bool
+    requires { ⌜ Part m (now nodes) ⌝ }
+    ensures { λ r. ⌜ r ≡ every (λ n. not (underWay (p .0) n)) (nodesIn m (now (nodes .entry))) ⌝ }
+{
+    let mut ok = true;
+    let mut i: u32 = 0;
+    while i < m {
+        ok = ok & !under_way(nodes, m, NodeId(i), p);
+        i += 1;
+    }
+    ok
 }

@@ -2,6 +2,7 @@
 // m, the number of nodes. No other crate reads a node's words: `state_of` gives a state, `set_state` sets it, here and in the check.
 pub mod counts;
 pub mod fits;
+pub mod handing;
 pub mod sweeps;
 
 use layout::Node;

@@ -1,13 +1,12 @@
--- The two ways of a print, and the words of the longest domain. Assumes nothing.
-use Prim.Native.Nat.{ℕ, _+_, _*_, _-_, _/_, _≤_}
+-- The two ways of a print. Assumes nothing.
+use Prim.Native.Nat.{ℕ, _-_, _/_, _≤_}
 use mathlib.Core.List.{List}
 use mathlib.Core.Path.{_≡_, sym, ap, _∙_}
 use native.Mathlib.Omega.{arith}
-use native.Mathlib.Nat.{le-trans, mul-le-mul-left, mul-le-mul-right}
 use lib.ListN.{length}
-use Rattle.model.specs.Params.{Params, InRange, wordCount}
-use Rattle.layout.specs.Ranges.{lengthFor}
-use Rattle.layout.proofs.Ranges.{in-range, length-in-range}
+use Rattle.model.specs.Params.{wordCount}
+use Rattle.layout.specs.Ranges.{lengthFor, mostWords}
+use Rattle.layout.proofs.Ranges.{in-range, length-in-range, words-most}
 use Rattle.trace.specs.Trace.{refused, given, Front, frontOf, traceOf}
 use Rattle.trace.specs.Claims.{ledFrom, traceFrom}
 use Rattle.trace.proofs.InTurn.{passed, steps-many}
@@ -19,20 +18,12 @@ use Rattle.replay.specs.Most.{bookRoom}
 use Rattle.replay.specs.Turn.{Replayed}
 use Rattle.print.specs.Printed.{readingText, printed, printRoom, Prints}
 
-words-most : (a : Params) → InRange a → wordCount a ≤ 2121
-words-most a r =
-    let rows : a .processes * (28 + 3 * a .hazards) ≤ 832 =
-    le-trans
-    (mul-le-mul-left (a .processes) (omega (arith, r .hazards)))
-    (mul-le-mul-right 52 (r .processes .1)) in
-    omega (arith, rows, r .nodes)
-
 module _ (bs : List ℕ) (f : Front) (opened : frontOf bs ≡ given f) where
   -- as many words as its domain takes
   pub long-is : lengthFor (f .params .processes) (f .params .hazards) (f .params .nodes) ≡ wordCount (f .params)
   long-is = length-in-range (f .params) (passed bs f opened .range)
 
-  pub long-most : wordCount (f .params) ≤ 2121
+  pub long-most : wordCount (f .params) ≤ mostWords
   long-most = words-most (f .params) (in-range (f .params) (passed bs f opened .range))
 
   fits : f .count ≤ (length bs - 36) / 12

@@ -1,22 +1,19 @@
 -- A question of the kinds that it is asked of, and the first no of the list, as the code goes through it. Assumes nothing.
 use Prim.Native.Nat.{ℕ}
 use mathlib.Core.Bool.{Bool, true, false, not, _&&_, _||_, cond, false≢true}
-use mathlib.Core.Path.{_≡_, refl, sym, _∙_}
+use mathlib.Core.Path.{_≡_, refl, sym, _∙_, ap}
 use mathlib.Core.Logic.{_≢_}
 use borrow.Author.Tests.{eq-eqb, ne-eqb, not-true, not-false}
 use lib.Dec.{ltb, eqb}
 use Rattle.lists.specs.Tests.{implies}
-use Rattle.model.specs.Kinds.{Kind, kindOf, numberOf, is, Unknown, Protect, Clear}
+use Rattle.lists.proofs.Bools.{or-implies}
+use Rattle.model.specs.Kinds.{Kind, kindOf, numberOf, is, Unknown, Protect, Clear, Join}
+use Rattle.model.specs.Questions.{presentFor}
 use Rattle.model.proofs.KindNumbers.{same-kind}
-
--- asked where x holds, as the code says it
-where-asked : (x y : Bool) → (not x || y) ≡ implies x y
-where-asked true y = refl
-where-asked false y = refl
 
 -- a range: p below n where the row's column, m, means w
 pub in-range : (w p : ℕ) {m m' n n' : ℕ} → m ≡ m' → n ≡ n' → (not (eqb m w) || ltb p n) ≡ implies (eqb m' w) (ltb p n')
-in-range w p {m} {m'} {n} e q = where-asked (eqb m w) (ltb p n) ∙ (λ t. implies (eqb (e t) w) (ltb p (q t)))
+in-range w p {m} {m'} {n} e q = or-implies (eqb m w) (ltb p n) ∙ (λ t. implies (eqb (e t) w) (ltb p (q t)))
 
 pub not-asked : (x y : Bool) → x ≡ false → true ≡ implies x y
 not-asked x y e = rw e
@@ -50,6 +47,13 @@ module _ (n : ℕ) where
 
   pub of-a-store : (not (eqb n 3) && not (eqb n 6)) ≡ false → {r y : Bool} → r ≡ y → r ≡ implies (is (kindOf n) Protect || is (kindOf n) Clear) y
   of-a-store e = is-asked _ (either true e)
+
+-- what question 20 asks for, of join and of every other kind
+pub absent-to-join : (n : ℕ) → n ≡ numberOf Join → 0 ≡ presentFor (kindOf n)
+absent-to-join n e = ap (λ m. presentFor (kindOf m)) (sym e)
+
+pub present-else : (n : ℕ) → n ≢ numberOf Join → 1 ≡ presentFor (kindOf n)
+present-else n z = ap (λ (b : Bool). cond b 0 1) (sym (ne-eqb n (numberOf Join) z) ∙ same-kind n Join refl)
 
 -- ---- the list: b is the code's answer, a the model's, m the first no of the rest
 

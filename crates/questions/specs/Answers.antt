@@ -19,6 +19,10 @@ answerTo n (q ∷ qs) = cond (eqb (q .number) n) (q .yes') (answerTo n qs)
 abbrev pub asked : ℕ → List ℕ → ℕ → ℕ → ℕ → List Question
 asked kind ws p h c = questions (kindOf kind) (decode ws) (given kind p h c 0)
 
+-- how many come first: 4, 5 and 20 to 22, which ask who takes the step
+abbrev pub askedFirst : ℕ
+askedFirst = 5
+
 -- hazard h of process p, the node assigned to that, and node c; past the last, zeros
 abbrev pub hazardIn : List ℕ → ℕ → ℕ → Hazard
 hazardIn ws p h = hazardOf (processIn ws p) h

@@ -1,4 +1,5 @@
-// The questions before a step, numbers 4 to 17 in the paper's order: the number of the first with the answer no, 0 where there is none.
+// The questions before a step, numbers 4 to 17 and 20 to 22 in the papers' order: the number of the first with the answer no, 0 where there
+// is none.
 // A question that a kind is not asked has the answer yes and reads nothing, so that with the kind as a literal only its own are left.
 pub mod read;
 
@@ -9,11 +10,12 @@ use layout::words::most;
 use layout::words::states;
 ghost use mathlib.Core.Path.{_≡_};
 ghost use Rattle.model.specs.Kinds.{kindOf};
-ghost use Rattle.model.specs.Questions.{refusalOf};
+ghost use lib.ListN.{drop};
+ghost use Rattle.model.specs.Questions.{firstNo, refusalOf};
 ghost use Rattle.layout.specs.Encode.{decode};
 ghost use Rattle.layout.specs.Sound.{Sound};
 ghost use Rattle.domain.specs.Effects.{given};
-ghost use Rattle.questions.specs.Answers.{answerTo, asked};
+ghost use Rattle.questions.specs.Answers.{answerTo, asked, askedFirst};
 
 // 5: is the process one of the domain's?
 fn process_in_range(words: &[u32], kind: u32, p: ProcessId) -> bool
@@ -22,6 +24,47 @@ fn process_in_range(words: &[u32], kind: u32, p: ProcessId) -> bool
 {
     let row = kinds::row_of(kind);
     (row.0 != kinds::PROCESS) | (p.0 < domain::bounds(words).processes)
+}
+
+// 20: is the process present, or absent where it is to join?
+fn present_or_joins(words: &[u32], kind: u32, p: ProcessId) -> bool
+    requires { ⌜ Sound (now words) ⌝ }
+    ensures { λ r. ⌜ r ≡ answerTo 20 (asked kind (now (words .entry)) (p .0) 0 0) ⌝ }
+{
+    let row = kinds::row_of(kind);
+    if row.0 != kinds::PROCESS {
+        return true;
+    }
+    let present = read::lead(words, p).present;
+    if kind == kinds::JOIN {
+        present == 0
+    } else {
+        present == 1
+    }
+}
+
+// 21: has the process no hazard assigned, no store pending and no node under way?
+fn unburdened(words: &[u32], kind: u32, p: ProcessId) -> bool
+    requires { ⌜ Sound (now words) ⌝ }
+    ensures { λ r. ⌜ r ≡ answerTo 21 (asked kind (now (words .entry)) (p .0) 0 0) ⌝ }
+{
+    if kind != kinds::LEAVE {
+        return true;
+    }
+    let stores = read::lead(words, p).stores;
+    read::unassigned(words, p) & ((stores == 0) & domain::none_under_way(words, p))
+}
+
+// 22: is the second process, which the node field names, another one of the domain's and present?
+fn takes_over(words: &[u32], kind: u32, p: ProcessId, c: NodeId) -> bool
+    requires { ⌜ Sound (now words) ⌝ }
+    ensures { λ r. ⌜ r ≡ answerTo 22 (asked kind (now (words .entry)) (p .0) 0 (c .0)) ⌝ }
+{
+    if kind != kinds::LEAVE {
+        return true;
+    }
+    let present = read::lead(words, ProcessId(c.0)).present;
+    (c.0 < domain::bounds(words).processes) & ((c.0 != p.0) & (present == 1))
 }
 
 // 6: is the hazard one of a process's?
@@ -154,16 +197,13 @@ fn none_assigned(words: &[u32], kind: u32, p: ProcessId) -> bool
     read::unassigned(words, p)
 }
 
-// The refusal of a step: the first question with the answer no.
-pub fn refusal(words: &[u32], kind: u32, p: ProcessId, h: HazardId, c: NodeId, guest: u32) -> u32
+// The first no from question 6 on. A function of its own: as one list with the questions before, which ask who takes the step, it is too long
+// to be folded into each kind's arm of the dispatch.
+fn rest(words: &[u32], kind: u32, p: ProcessId, h: HazardId, c: NodeId) -> u32
     requires { ⌜ Sound (now words) ⌝ }
-    ensures { λ r. ⌜ r ≡ refusalOf (kindOf kind) (decode (now (words .entry))) (given kind (p .0) (h .0) (c .0) guest) ⌝ }
+    ensures { λ r. ⌜ r ≡ firstNo (drop askedFirst (asked kind (now (words .entry)) (p .0) (h .0) (c .0))) ⌝ }
 {
-    if !kinds::known(kind) {
-        4
-    } else if !process_in_range(words, kind, p) {
-        5
-    } else if !hazard_in_range(words, kind, h) {
+    if !hazard_in_range(words, kind, h) {
         6
     } else if !node_in_range(words, kind, c) {
         7
@@ -189,5 +229,25 @@ pub fn refusal(words: &[u32], kind: u32, p: ProcessId, h: HazardId, c: NodeId, g
         17
     } else {
         0
+    }
+}
+
+// The refusal of a step: the first question with the answer no.
+pub fn refusal(words: &[u32], kind: u32, p: ProcessId, h: HazardId, c: NodeId, guest: u32) -> u32
+    requires { ⌜ Sound (now words) ⌝ }
+    ensures { λ r. ⌜ r ≡ refusalOf (kindOf kind) (decode (now (words .entry))) (given kind (p .0) (h .0) (c .0) guest) ⌝ }
+{
+    if !kinds::known(kind) {
+        4
+    } else if !process_in_range(words, kind, p) {
+        5
+    } else if !present_or_joins(words, kind, p) {
+        20
+    } else if !unburdened(words, kind, p) {
+        21
+    } else if !takes_over(words, kind, p, c) {
+        22
+    } else {
+        rest(words, kind, p, h, c)
     }
 }

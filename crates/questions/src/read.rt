@@ -15,7 +15,7 @@ ghost use Rattle.layout.specs.Values.{leadValue, hazardValue, nodeValue};
 ghost use Rattle.domain.specs.Effects.{processIn};
 ghost use Rattle.questions.specs.Answers.{hazardIn, targetIn, nodeIn};
 
-// The epoch, calls, presence and number of pending stores of process p.
+// The words of process p before its hazards.
 pub fn lead(words: &[u32], p: ProcessId) -> Lead
     requires { ⌜ Sound (now words) ⌝ }
     ensures { λ r. ⌜ leadValue r ≡ leadOf (processIn (now (words .entry)) (p .0)) ⌝ }
@@ -26,6 +26,7 @@ pub fn lead(words: &[u32], p: ProcessId) -> Lead
             calls: 0,
             presence: 0,
             stores: 0,
+            present: 0,
         };
     }
     domain::process::lead(words, p)

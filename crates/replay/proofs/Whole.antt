@@ -34,7 +34,7 @@ module _ (bs : List ℕ) (f : Front) (opened : frontOf bs ≡ given f) where
   pub few-steps : f .count ≤ 5458
   few-steps = let (t, _, turn) = steps-in-turn bs f opened in turn .few
 
-  ranged : InRange (f .params)
+  pub ranged : InRange (f .params)
   ranged = in-range (f .params) (passed bs f opened .range)
 
   well : WellFormed (fresh (f .params))

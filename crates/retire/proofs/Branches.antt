@@ -13,7 +13,7 @@ use Rattle.model.specs.WellFormed.{WellFormed}
 use Rattle.model.specs.State.{Domain, Node, Step, Fallback, processOf, nodeOf, setNode, withPath, clearPresence}
 use Rattle.model.specs.Kinds.{Retire}
 use Rattle.model.specs.Retire.{retiredBy, partialScan, scan, retiring, marked, overfull, fallBack, reclaim}
-use Rattle.model.proofs.WellFormed.{keep-path, keep-absent, keep-marked}
+use Rattle.model.proofs.WellFormed.{keep-path, keep-presence, keep-marked}
 use Rattle.layout.specs.Shape.{Lead, leadOf}
 use Rattle.layout.specs.Encode.{encode, decode, paramsIn}
 use Rattle.layout.specs.Sound.{Sound}
@@ -63,7 +63,7 @@ module _ {ws : List ℕ} (s : Sound ws) (p : ℕ) {a : Params} (ea : a ≡ decod
 
     module _ {ws₁ : List ℕ} (e₁ : ws₁ ≡ encode (fallBack (decode ws))) where
       switched : WellFormed (fallBack (decode ws))
-      switched = keep-absent (good s)
+      switched = keep-presence (good s)
 
       pub sound-switched : Sound ws₁
       sound-switched = sound-at e₁ switched

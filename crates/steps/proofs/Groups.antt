@@ -5,7 +5,7 @@ use mathlib.Core.Logic.{_≢_, _⊎_, inl, inr, ⊎-elim}
 use native.Mathlib.Omega.{arith}
 use Rattle.model.specs.Kinds.{kindOf, Unknown}
 use Rattle.kinds.proofs.Rows.{unknown}
-use Rattle.steps.specs.Groups.{OnNode, OnHazard, OnProcess, OnDomain}
+use Rattle.steps.specs.Groups.{OnNode, OnHazard, OnProcess, OnDomain, OnAttendance}
 
 module _ {kind : ℕ} where
   pub last-on-node : OnNode kind → kind ≢ 1 → kind ≢ 2 → kind ≢ 7 → kind ≢ 8 → kind ≡ 14
@@ -20,11 +20,17 @@ module _ {kind : ℕ} where
   pub last-on-domain : OnDomain kind → kind ≢ 11 → kind ≡ 13
   last-on-domain g n11 = ⊎-elim (λ h. absurd (n11 h)) (λ h. h) g
 
+  pub last-on-attendance : OnAttendance kind → kind ≢ 15 → kind ≡ 16
+  last-on-attendance g n15 = omega arith
+
   pub none-below : kind < 1 → kindOf kind ≡ Unknown
   none-below h = let e : kind ≡ 0 = omega arith in ap kindOf e
 
-  pub none-beyond : 11 ≤ kind → kind ≢ 12 → ((kind ≡ 11) ⊎ (kind ≡ 13) → ⊥) → kind ≢ 14 → kindOf kind ≡ Unknown
-  none-beyond h n12 n n14 =
+  pub none-beyond : 17 ≤ kind → kindOf kind ≡ Unknown
+  none-beyond h = unknown kind (omega arith)
+
+  -- what is left between the others
+  pub on-attendance : 11 ≤ kind → kind < 17 → kind ≢ 12 → ((kind ≡ 11) ⊎ (kind ≡ 13) → ⊥) → kind ≢ 14 → OnAttendance kind
+  on-attendance h l n12 n n14 =
       let n11 : kind ≢ 11 = λ e. n (inl e) in
-      let n13 : kind ≢ 13 = λ e. n (inr e) in
-      unknown kind (omega arith)
+      let n13 : kind ≢ 13 = λ e. n (inr e) in omega arith

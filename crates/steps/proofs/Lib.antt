@@ -1,3 +1,4 @@
 pub mod OneNumber
 pub mod AsRead
 pub mod Groups
+pub mod Going

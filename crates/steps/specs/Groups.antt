@@ -19,3 +19,7 @@ OnProcess kind = Between 9 10 kind ⊎ (kind ≡ 12)
 -- the domain: tick, clear presence
 abbrev pub OnDomain : ℕ → Type 0
 OnDomain kind = (kind ≡ 11) ⊎ (kind ≡ 13)
+
+-- who is there: leave, join
+abbrev pub OnAttendance : ℕ → Type 0
+OnAttendance kind = Between 15 16 kind

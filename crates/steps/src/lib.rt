@@ -1,6 +1,7 @@
 // A step on words that are known to be sound: one dispatch over the kind, in each arm the questions with that kind as a literal, of which
 // only its own are left, and then what it does. The answer is one number, the refusal its low word and the value its high one: two fields
 // would come back through memory.
+mod attendance;
 mod domain_kinds;
 mod node_kinds;
 mod process_kinds;
@@ -10,7 +11,7 @@ use layout::NodeId;
 use layout::ProcessId;
 ghost use Rattle.layout.specs.Sound.{Sound};
 ghost use Rattle.steps.specs.Stepped.{outcome, Stepped, SteppedTo};
-ghost use Rattle.steps.specs.Groups.{OnNode, OnHazard, OnProcess, OnDomain};
+ghost use Rattle.steps.specs.Groups.{OnNode, OnHazard, OnProcess, OnDomain, OnAttendance};
 
 // The refusal number, 0 for accepted, and the value.
 pub struct Answer {
@@ -180,6 +181,36 @@ fn domain_step(
     }
 }
 
+// Kinds 15 and 16.
+fn attendance_step(
+    words: &mut [u32],
+    kind: u32,
+    p: ProcessId,
+    h: HazardId,
+    c: NodeId,
+    guest: u32,
+) -> usize
+    requires { ⌜ Sound (now words) × OnAttendance kind ⌝ }
+    ensures { λ r. ⌜ SteppedTo (now (words .entry)) kind (p .0) (h .0) (c .0) guest r (now (words .exit)) ⌝ }
+{
+    match kind {
+        15 => {
+            let no = questions::refusal(words, 15, p, h, c, guest);
+            if no != 0 {
+                return layout::wide(no);
+            }
+            layout::pair(0, attendance::leave(words, p, c))
+        }
+        _ => {
+            let no = questions::refusal(words, 16, p, h, c, guest);
+            if no != 0 {
+                return layout::wide(no);
+            }
+            layout::pair(0, attendance::join(words, p))
+        }
+    }
+}
+
 // A step on words known to be sound, which are sound again after it.
 pub fn take_step(
     words: &mut [u32],
@@ -197,6 +228,7 @@ pub fn take_step(
         3..=6 => hazard_step(words, kind, p, h, c, guest),
         9..=10 | 12 => process_step(words, kind, p, h, c, guest),
         11 | 13 => domain_step(words, kind, p, h, c, guest),
+        15..=16 => attendance_step(words, kind, p, h, c, guest),
         _ => 4,
     }
 }

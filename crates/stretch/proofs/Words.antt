@@ -20,7 +20,8 @@ use Rattle.stretch.specs.Stretch.{Stretch}
 -- the words of a process before its buffer, with n stores pending
 abbrev pub front : ℕ → Process → List ℕ
 front n x =
-    leadWords (record { epoch = x .epoch; calls = x .calls; presence = x .presence; stores = n }) ++ rows hazardWords (x .hazards)
+    leadWords (record { epoch = x .epoch; calls = x .calls; presence = x .presence; stores = n; present = x .present })
+    ++ rows hazardWords (x .hazards)
 
 pub front-buffer : (x : Process) → processWords x ≡ front (length (x .buffer)) x ++ bufferWords (x .buffer)
 unfolding processWordsBy
@@ -79,7 +80,7 @@ module _ (k : ℕ) (r : List ℕ) where
   -- the records that those words make
   pub lead-at : leadAt r ≡ leadOf (processAt k r)
   unfolding processBy
-  lead-at = λ t. record { epoch = word r 0; calls = word r 1; presence = word r 2; stores = sym (stores-length k r) t }
+  lead-at = λ t. record { epoch = word r 0; calls = word r 1; presence = word r 2; stores = sym (stores-length k r) t; present = word r 4 }
 
   pub hazard-at : (h a : ℕ) → storesPlace shape k ≤ length r → h < k → a ≡ hazardPlace shape h
       → record { visible = word r (a + 0); assigned = word r (a + 1); validated = word r (a + 2) } ≡ hazardOf (processAt k r) h

@@ -10,9 +10,10 @@ use Rattle.lists.specs.Rows.{rows}
 use Rattle.lists.proofs.RowParts.{sets-append-add, sets-append-left, rows-part, rows-append}
 use Rattle.model.specs.Params.{bufferSize, hazardWidth, storeWidth, bufferWidth}
 use Rattle.model.specs.State.{Pending, Hazard, Process, emptyHazard, hazardOf, setHazard, withStores, withWords}
+use Rattle.model.specs.State.{withPresent}
 use Rattle.model.specs.Hazards.{pending, assigning, validating}
-use Rattle.layout.specs.Shape.{word, leadOf, hazardPlace, storePlace}
-use Rattle.layout.specs.Codecs.{storesWord, leadAt, leadWords, hazardWords, pendingWords}
+use Rattle.layout.specs.Shape.{leadOf, hazardPlace, storePlace}
+use Rattle.layout.specs.Codecs.{storesWord, presentWord, leadAt, leadWords, hazardWords, pendingWords}
 use Rattle.layout.specs.Encode.{shape, bufferWords, processWordsBy, processWords, processAt}
 use Rattle.stretch.specs.Stretch.{Stretch}
 use Rattle.stretch.proofs.Words.{front, front-buffer, width-front, width-hazards, width-stores, hazards-length}
@@ -59,6 +60,11 @@ module _ (k : ℕ) (r : List ℕ) (s : Stretch k r) where
   pub lead-written : (e c p : ℕ) → sets r 0 (e ∷ c ∷ p ∷ []) ≡ processWords (withWords (processAt k r) e c p)
   unfolding processWordsBy
   lead-written e c p = ap (λ (ws : List ℕ). sets ws 0 (e ∷ c ∷ p ∷ [])) (s .whole)
+
+  pub words-written : (e c p t : ℕ)
+      → set (sets r 0 (e ∷ c ∷ p ∷ [])) presentWord t ≡ processWords (withPresent (withWords (processAt k r) e c p) t)
+  unfolding processWordsBy
+  words-written e c p t = ap (λ (ws : List ℕ). set (sets ws 0 (e ∷ c ∷ p ∷ [])) presentWord t) (s .whole)
 
   -- the words vs of hazard h, from its word j on
   pub hazard-written : (h j a : ℕ) (vs : List ℕ) (y : Hazard) → h < k → j + length vs ≤ hazardWidth → a ≡ hazardPlace shape h + j

@@ -13,7 +13,7 @@ ghost use mathlib.Core.Path.{_≡_};
 ghost use Prim.Native.Nat.{ℕ, _<_, _≤_};
 ghost use lib.ListN.{length};
 ghost use Rattle.model.specs.Params.{bufferSize};
-ghost use Rattle.model.specs.State.{withWords, hazardOf};
+ghost use Rattle.model.specs.State.{withWords, withPresent, hazardOf};
 ghost use Rattle.model.specs.Hazards.{assigning, validating, unassigned};
 ghost use Rattle.layout.specs.Shape.{leadOf};
 ghost use Rattle.layout.specs.Values.{leadValue, hazardValue};
@@ -40,10 +40,11 @@ pub fn lead(row: &[u32]) -> Lead
         calls: row[lead_word::CALLS],
         presence: row[lead_word::PRESENCE],
         stores: row[lead_word::STORES],
+        present: row[lead_word::PRESENT],
     }
 }
 
-// Writes the words before the hazards, but for how many stores are pending.
+// Writes the epoch, the calls and the presence.
 pub fn set_lead(row: &mut [u32], at: Place, epoch: u32, calls: u32, presence: u32)
     requires { ⌜ Stretched at (now row) ⌝ }
     ensures { λ _. ⌜ now (row .exit) ≡ processWords (withWords (heldIn at (now (row .entry))) epoch calls presence) ⌝ }
@@ -51,6 +52,17 @@ pub fn set_lead(row: &mut [u32], at: Place, epoch: u32, calls: u32, presence: u3
     row[lead_word::EPOCH] = epoch;
     row[lead_word::CALLS] = calls;
     row[lead_word::PRESENCE] = presence;
+}
+
+// Writes these and whether the process is present: all words before the hazards but for how many stores are pending.
+pub fn set_words(row: &mut [u32], at: Place, epoch: u32, calls: u32, presence: u32, present: u32)
+    requires { ⌜ Stretched at (now row) ⌝ }
+    ensures { λ _. ⌜ now (row .exit) ≡ processWords (withPresent (withWords (heldIn at (now (row .entry))) epoch calls presence) present) ⌝ }
+{
+    row[lead_word::EPOCH] = epoch;
+    row[lead_word::CALLS] = calls;
+    row[lead_word::PRESENCE] = presence;
+    row[lead_word::PRESENT] = present;
 }
 
 // Hazard h.

@@ -1,6 +1,6 @@
 -- A process within its limits is one that fits. Assumes nothing.
 use Prim.Native.Nat.{ℕ, zero, suc, _+_, _-_, _*_, _/_, _%_, _<_, _≤_}
-use mathlib.Core.Bool.{Bool, true, false, not, _&&_, cond, and-assoc, and-false}
+use mathlib.Core.Bool.{Bool, true, false, not, _&&_, cond, and-assoc, and-false, false≢true}
 use mathlib.Core.List.{List}
 use mathlib.Core.Path.{_≡_, refl, sym, _∙_, ap}
 use native.Mathlib.Omega.{arith}
@@ -8,9 +8,10 @@ use native.Mathlib.Nat.{add-assoc, add-zero, mul-le-mul-right}
 use lib.Bits.{bitAnd, and-zero-r, and-mask}
 use lib.ListN.{length, drop}
 use lib.Dec.{leb, ltb, eqb, eqb·suc-zero}
-use borrow.Author.Tests.{lt-ltb, le-ltb, le-leb, lt-leb, ltb-true, ltb-false}
+use borrow.Author.Tests.{lt-ltb, le-ltb, le-leb, lt-leb, leb-true, ltb-true, ltb-false}
 use Rattle.lists.specs.Tests.{implies}
 use Rattle.lists.specs.Upto.{allUpto}
+use Rattle.lists.proofs.Bools.{both}
 use Rattle.lists.proofs.Upto.{also-none, also-more, all-ext, all-more, all-at, all-follow}
 use Rattle.lists.proofs.UptoParts.{all-join}
 use Rattle.model.specs.Params.{Params, Between, mostHazards, bufferSize, hazardWidth, storeWidth}
@@ -18,7 +19,8 @@ use Rattle.layout.specs.Shape.{Lead, word, hazardPlace, storesPlace, storePlace
 use Rattle.layout.specs.Encode.{shape, paramsIn}
 use Rattle.layout.specs.Words.{leadFits, hazardFits, storeFits, processFitsBy, processesFit}
 use Rattle.layout.proofs.Places.{leadFrom, lead-from}
-use Rattle.layout.proofs.Fits.{lead-facts, hazard-facts}
+use Rattle.layout.specs.Codecs.{presentWord}
+use Rattle.layout.proofs.Fits.{hazard-facts}
 use Rattle.limits.specs.Limits.{within, anyWord}
 use Rattle.limits.proofs.Tests.{below, only-zero}
 use Rattle.wellformed.specs.declared.processes.Limits.{Limits}
@@ -65,7 +67,7 @@ module _ (l : Limits) (stores : ℕ) (ws : List ℕ) (at : ℕ) where
       ∙ ap (λ (b : Bool). x && b) (ap (λ (b : Bool). halfWithin l stores ws at 0 && b) more ∙ sym (all-join f halfSize halfSize))
 
 pub hazard-none : (ws : List ℕ) (m before at : ℕ) (x y z : Bool) → at ≡ before + 1
-    → y ≡ (x && not (ltb (word ws (at + 1)) (word ws (at + 2)))) → z ≡ (y && within ws before bufferSize m m 1)
+    → y ≡ (x && not (ltb (word ws (at + 1)) (word ws (at + 2)))) → z ≡ (y && within ws before 1 m m 1)
     → z ≡ (x && hazardWithin m ws before)
 hazard-none ws m before at x y z ea hy hz = rw (hz, hy, ea, add-assoc before 1 1, add-assoc before 1 2) (and-assoc x _ _)
 
@@ -89,11 +91,25 @@ process-none l k ws a from s v x y z ef es hx hy hz =
 
 -- ---- the lead by its limits, and by the paper's clauses
 
-lead-fits : (ws : List ℕ) (a q : ℕ) → 1 ≤ q → leadWithin (q - 1) ws a ≡ leadFits q (shape .lead .get (drop a ws))
-unfolding within leadFits
-lead-fits ws a q l =
-    let by-place : leadWithin (q - 1) ws a ≡ leadFits q (leadFrom ws a) = rw (below (word ws (a + 1)) q l, add-zero a) in
-    by-place ∙ ap (leadFits q) (sym (lead-from ws a))
+-- its first four words; the last is looked at with the first hazard
+abbrev fourFit : ℕ → Lead → Bool
+fourFit q l = leb (l .epoch) 2 && (ltb (l .calls) q && (leb (l .presence) 1 && leb (l .stores) bufferSize))
+
+four-fit : (ws : List ℕ) (a q : ℕ) → 1 ≤ q → leadWithin (q - 1) ws a ≡ fourFit q (shape .lead .get (drop a ws))
+unfolding within
+four-fit ws a q l =
+    let by-place : leadWithin (q - 1) ws a ≡ fourFit q (leadFrom ws a) = rw (below (word ws (a + 1)) q l, add-zero a) in
+    by-place ∙ ap (fourFit q) (sym (lead-from ws a))
+
+lead-split : (q : ℕ) (l : Lead) → leadFits q l ≡ (fourFit q l && leb (l .present) 1)
+unfolding leadFits
+lead-split q l = simp and-assoc
+
+four-stores : (q : ℕ) (l : Lead) → fourFit q l ≡ true → l .stores ≤ bufferSize
+four-stores q l e =
+    let e₀ = both (leb (l .epoch) 2) _ e in
+    let e₁ = both (ltb (l .calls) q) _ (e₀ .1) in
+    leb-true _ _ (both (leb (l .presence) 1) _ (e₁ .1) .1)
 
 -- ---- a buffer, of at most eight stores
 
@@ -132,7 +148,7 @@ module _ (l : Limits) (stores k : ℕ) (ws : List ℕ) (some' : 1 ≤ k) (ek : l
       go true = rw (below (word ws a) k some')
       go false = simp only-zero
 
--- ---- hazards, after a word that is at most the number of stores
+-- ---- hazards, after a word that is at most 1
 
 backed : (d s : ℕ) → (not (ltb s d) && leb d 1) ≡ (leb d 1 && implies (eqb d 1) (not (eqb s 0)))
 backed zero s = rw (le-ltb s 0 (omega arith))
@@ -146,10 +162,10 @@ spread n true false d i h = and-false n
 spread n false s d i h = and-false n
 
 module _ (ws : List ℕ) (m : ℕ) where
-  hazard-fits : (b : ℕ) → word ws b ≤ bufferSize → hazardWithin m ws b ≡ hazardFits m ws (b + 1)
+  hazard-fits : (b : ℕ) → word ws b ≤ 1 → hazardWithin m ws b ≡ hazardFits m ws (b + 1)
   unfolding within hazardFits
   hazard-fits b h =
-      rw (le-leb (word ws b) bufferSize h, add-assoc b 1 1, add-assoc b 1 2)
+      rw (le-leb (word ws b) 1 h, add-assoc b 1 1, add-assoc b 1 2)
       (spread
       (not (ltb (word ws (b + 2)) (word ws (b + 3))))
       (leb (word ws (b + 1)) m)
@@ -159,10 +175,10 @@ module _ (ws : List ℕ) (m : ℕ) where
       (backed (word ws (b + 3)) (word ws (b + 2))))
 
   -- the word before a hazard is the last of the one before it
-  hazards-fit : (p : Params) → p .nodes ≡ m → (b k : ℕ) → word ws b ≤ bufferSize
+  hazards-follow : (p : Params) → p .nodes ≡ m → (b k : ℕ) → word ws b ≤ 1
       → hazardsWithin m ws b k ≡ allUpto (λ h. hazardFits m ws (b + 1 + hazardWidth * h)) k
   unfolding hazardsWithin
-  hazards-fit p em b k h = all-follow within' fits k (λ i l e. hazard-fits (b + hazardWidth * i) (before i e) ∙ moved i)
+  hazards-follow p em b k h = all-follow within' fits k (λ i l e. hazard-fits (b + hazardWidth * i) (before i e) ∙ moved i)
     where
       within' : ℕ → Bool
       within' i = hazardWithin m ws (b + hazardWidth * i)
@@ -173,13 +189,30 @@ module _ (ws : List ℕ) (m : ℕ) where
       moved : (i : ℕ) → hazardFits m ws (b + hazardWidth * i + 1) ≡ fits i
       moved i = let e : b + hazardWidth * i + 1 ≡ b + 1 + hazardWidth * i = omega arith in ap (hazardFits m ws) e
 
-      before : (i : ℕ) → allUpto fits i ≡ true → word ws (b + hazardWidth * i) ≤ bufferSize
+      before : (i : ℕ) → allUpto fits i ≡ true → word ws (b + hazardWidth * i) ≤ 1
       before zero e = rw add-zero h
       before (suc i) e =
           let fit : hazardFits (p .nodes) ws (b + 1 + hazardWidth * i) ≡ true = rw em (all-at fits (suc i) i e (omega arith)) in
           let last = hazard-facts p ws (b + 1 + hazardWidth * i) fit .validated in
           let q : b + 1 + hazardWidth * i + 2 ≡ b + hazardWidth * suc i = omega arith in
-          let r : word ws (b + hazardWidth * suc i) ≤ 1 = rw q at last in omega arith
+          rw q at last
+
+  -- so that with the first hazard that word is looked at too
+  first-word : (b k : ℕ) → 1 ≤ k → hazardsWithin m ws b k ≡ true → leb (word ws b) 1 ≡ true
+  unfolding hazardsWithin within
+  first-word b k some' e =
+      let first : hazardWithin m ws b ≡ true = rw add-zero at (all-at (λ h. hazardWithin m ws (b + hazardWidth * h)) k 0 e some') in
+      both (leb (word ws b) 1) _ (both (not (ltb (word ws (b + 2)) (word ws (b + 3)))) _ first .1) .0
+
+  hazards-fit : (p : Params) → p .nodes ≡ m → (b k : ℕ) → 1 ≤ k
+      → hazardsWithin m ws b k ≡ (leb (word ws b) 1 && allUpto (λ h. hazardFits m ws (b + 1 + hazardWidth * h)) k)
+  hazards-fit p em b k some' = by (leb (word ws b) 1) refl (hazardsWithin m ws b k) refl
+    where
+      by : (x : Bool) → leb (word ws b) 1 ≡ x → (y : Bool) → hazardsWithin m ws b k ≡ y
+          → hazardsWithin m ws b k ≡ (x && allUpto (λ h. hazardFits m ws (b + 1 + hazardWidth * h)) k)
+      by true e y f = hazards-follow p em b k (leb-true _ _ e)
+      by false e true f = absurd (false≢true (sym e ∙ first-word b k some' f))
+      by false e false f = f
 
 -- ---- a process
 
@@ -203,14 +236,15 @@ module _ (ws : List ℕ) (p : Params) (clock a : ℕ) (l : Limits) (of : LimitsO
   abbrev storeAt : ℕ → Bool
   storeAt e = storeFits (lead .stores) k (p .nodes) clock ws (a + storePlace shape k e) e
 
-  hazards-are : lead .stores ≤ bufferSize → hazardsWithin (l .nodes) ws (a + shape .leadWidth - 1) k ≡ hazardsFit
-  hazards-are h =
-      let e : a + shape .leadWidth - 1 ≡ a + 3 = omega arith in
-      let stored : word ws (a + 3) ≡ lead .stores = ap (λ (r : Lead). r .stores) (sym (lead-from ws a)) in
+  hazards-are : hazardsWithin (l .nodes) ws (a + shape .leadWidth - 1) k ≡ (leb (lead .present) 1 && hazardsFit)
+  hazards-are =
+      let e : a + shape .leadWidth - 1 ≡ a + presentWord = omega arith in
+      let said : word ws (a + presentWord) ≡ lead .present = ap (λ (r : Lead). r .present) (sym (lead-from ws a)) in
+      let same = all-ext _ _ k
+      (λ i _. let q : a + presentWord + 1 + hazardWidth * i ≡ a + hazardPlace shape i = omega arith in ap (hazardFits (p .nodes) ws) q) in
       (λ t. hazardsWithin (of .nodes t) ws (e t) k)
-      ∙ hazards-fit ws (p .nodes) p refl (a + 3) k (rw (← stored) at h)
-      ∙ all-ext _ _ k
-      (λ i _. let q : a + 3 + 1 + hazardWidth * i ≡ a + hazardPlace shape i = omega arith in ap (hazardFits (p .nodes) ws) q)
+      ∙ hazards-fit ws (p .nodes) p refl (a + presentWord) k (few .0)
+      ∙ (λ t. leb (said t) 1 && same t)
 
   stores-are : lead .stores ≤ bufferSize → storesWithin l (lead .stores) ws (a + storesPlace shape k) ≡ allUpto storeAt bufferSize
   stores-are h =
@@ -221,19 +255,21 @@ module _ (ws : List ℕ) (p : Params) (clock a : ℕ) (l : Limits) (of : LimitsO
       ∙ store-fits l (lead .stores) k ws (few .0) (of .hazard) h (a + storePlace shape k e) e i
       ∙ (λ t. storeFits (lead .stores) k (of .nodes t) (of .clock t) ws (a + storePlace shape k e) e))
 
-  -- where the lead does not fit, nothing else matters
-  rest-fits : (b : Bool) → leadFits (p .quiescenceThreshold) lead ≡ b
+  -- where the first four words do not fit, nothing else matters
+  rest-fits : (b : Bool) → fourFit (p .quiescenceThreshold) lead ≡ b
       → (b
       && (hazardsWithin (l .nodes) ws (a + shape .leadWidth - 1) k && storesWithin l (lead .stores) ws (a + storesPlace shape k)))
-      ≡ (b && (hazardsFit && allUpto storeAt bufferSize))
+      ≡ ((b && leb (lead .present) 1) && (hazardsFit && allUpto storeAt bufferSize))
   rest-fits false e = refl
   rest-fits true e =
-      let h = lead-facts (p .quiescenceThreshold) lead e .stores in λ t. hazards-are h t && stores-are h t
+      (λ t. hazards-are t && stores-are (four-stores (p .quiescenceThreshold) lead e) t)
+      ∙ and-assoc (leb (lead .present) 1) hazardsFit (allUpto storeAt bufferSize)
 
   pub process-fits : 1 ≤ p .quiescenceThreshold → processWithin l k ws a ≡ processFitsBy shape p clock ws a
   unfolding processWithin processFitsBy
   process-fits q =
-      rw (of .calls, lead-fits ws a (p .quiescenceThreshold) q) (rest-fits (leadFits (p .quiescenceThreshold) lead) refl)
+      rw (of .calls, four-fit ws a (p .quiescenceThreshold) q, lead-split (p .quiescenceThreshold) lead)
+      (rest-fits (fourFit (p .quiescenceThreshold) lead) refl)
 
 -- ---- a turn of the loop over the processes, and its end
 

@@ -45,15 +45,16 @@ halfWithin l stores ws a e = placesWithin l stores ws a e halfSize
 abbrev pub storesWithin : Limits → ℕ → List ℕ → ℕ → Bool
 storesWithin l stores ws a = placesWithin l stores ws a 0 bufferSize
 
--- a hazard and the word before it, which is a number of stores or whether another hazard is validated; validated is at most assigned
+-- a hazard and the word before it, which says whether the process is present or whether another hazard is validated; validated is at most
+-- assigned
 abbrev pub hazardWithin : ℕ → List ℕ → ℕ → Bool
 hazardWithin m ws before =
-    not (ltb (word ws (before + 2)) (word ws (before + 3))) && within ws before bufferSize m m 1
+    not (ltb (word ws (before + 2)) (word ws (before + 3))) && within ws before 1 m m 1
 
 unfoldable pub hazardsWithin : ℕ → List ℕ → ℕ → ℕ → Bool
 hazardsWithin m ws before k = allUpto (λ h. hazardWithin m ws (before + hazardWidth * h)) k
 
--- epoch, calls, presence, stores
+-- epoch, calls, presence, stores; present, the word after them, is looked at with the first hazard
 abbrev pub leadWithin : ℕ → List ℕ → ℕ → Bool
 leadWithin calls ws a = within ws a lastEpoch calls 1 bufferSize
 

@@ -81,23 +81,15 @@ fn buffer(faults: Faults, words: &[u32], at: usize, stores: u32, limits: Limits)
     half(one, words, at + HALF, HALF_PLACES, stores, limits)
 }
 
-// A hazard, with the word before it, so that it is a piece of four: that word is a number of stores, or whether the hazard before is
-// validated. Only where a node is assigned may it be validated.
+// A hazard, with the word before it, so that it is a piece of four: that word is whether the process is present, or whether the hazard
+// before is validated. Only where a node is assigned may it be validated.
 fn hazard(faults: Faults, words: &[u32], before: usize, m: u32) -> Faults
     requires { ⌜ before + 4 ≤ length (now words) ⌝ }
     ensures { λ r. ⌜ none r ≡ (none faults && hazardWithin m (now (words .entry)) before) ⌝ }
 {
     let at = before + 1;
     let unbacked = words[at + hazard_word::VALIDATED] > words[at + hazard_word::ASSIGNED];
-    limits::piece(
-        limits::noted(faults, unbacked),
-        words,
-        before,
-        most::STORES,
-        m,
-        m,
-        1,
-    )
+    limits::piece(limits::noted(faults, unbacked), words, before, 1, m, m, 1)
 }
 
 // The k hazards after the word `before`.
@@ -113,7 +105,7 @@ fn hazards(mut faults: Faults, words: &[u32], before: usize, k: usize, m: u32) -
     faults
 }
 
-// A process's lead. (One of more words takes a further piece, which ends where the lead ends.)
+// A process's lead but for its last word, which is looked at with the first hazard.
 fn lead(faults: Faults, words: &[u32], at: usize, calls: u32) -> Faults
     requires { ⌜ at + shape .leadWidth ≤ length (now words) ⌝ }
     ensures { λ r. ⌜ none r ≡ (none faults && leadWithin calls (now (words .entry)) at) ⌝ }

@@ -25,7 +25,10 @@ pub enum Path {
 pub struct Process {
     pub epoch: u32,
     pub calls: u32,
+    /// checked in since presence was last cleared
     pub presence: bool,
+    /// takes part at all
+    pub present: bool,
     pub hazards: Vec<Hazard>,
     pub buffer: VecDeque<Store>,
 }
@@ -95,24 +98,25 @@ impl Node {
 
 impl Process {
     /// The words before the hazards, of a fresh domain.
-    const FRESH: [u32; LEAD] = [0; LEAD];
+    const FRESH: [u32; LEAD] = [0, 0, 0, 0, 1];
 
     /// Its words before its hazards.
     pub fn lead(&self) -> [u32; LEAD] {
-        [self.epoch, self.calls, self.presence as u32, self.buffer.len() as u32]
+        [self.epoch, self.calls, self.presence as u32, self.buffer.len() as u32, self.present as u32]
     }
 
     /// The greatest value of each.
     pub fn lead_limits(params: Params) -> [u32; LEAD] {
-        [2, params.quiescence_threshold - 1, 1, BUFFER as u32]
+        [2, params.quiescence_threshold - 1, 1, BUFFER as u32, 1]
     }
 
     /// A process with these words, K empty hazards, and so many stores to come.
-    pub fn of_lead(params: Params, [epoch, calls, presence, stores]: [u32; LEAD]) -> Process {
+    pub fn of_lead(params: Params, [epoch, calls, presence, stores, present]: [u32; LEAD]) -> Process {
         Process {
             epoch,
             calls,
             presence: presence == 1,
+            present: present == 1,
             hazards: vec![Hazard::default(); params.hazards as usize],
             buffer: VecDeque::with_capacity(stores as usize),
         }
@@ -149,6 +153,13 @@ impl Domain {
 
     pub fn all_hazards(&self) -> impl Iterator<Item = &Hazard> {
         self.processes.iter().flat_map(|process| &process.hazards)
+    }
+
+    /// What a process may not leave with, and whether it has it: an assigned hazard, a pending store, an Allocated and a Removed node.
+    pub fn ties(&self, id: u32) -> [bool; 4] {
+        let process = self.process(id);
+        let owns = |state| self.nodes.iter().any(|node| node.state() == state && node.owner() == Some(id));
+        [process.has_assigned(), !process.buffer.is_empty(), owns(State::Allocated), owns(State::Removed)]
     }
 
     /// The panel's number.

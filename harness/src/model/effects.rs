@@ -23,6 +23,8 @@ impl Model {
             Kind::Manage => return self.manage(step.process),
             Kind::ClearPresence => self.clear_presence(),
             Kind::Reinsert => self.reinsert(step),
+            Kind::Leave => self.leave(step.process, step.node),
+            Kind::Join => self.join(step.process),
         }
         0
     }
@@ -168,7 +170,7 @@ impl Model {
         }
         process.presence = true;
         if self.domain.path == Path::Fallback {
-            let all_checked_in = self.domain.processes.iter().all(|process| process.presence);
+            let all_checked_in = self.compared(Mistake::WaitsForAbsentPresence).all(|process| process.presence);
             if !all_checked_in && !self.rules.have(Mistake::ReturnsWithoutPresence) {
                 return 0;
             }
@@ -184,11 +186,42 @@ impl Model {
             let list = (global + self.rules.have(Mistake::FreesTwoEpochsOn) as u32) % 3;
             return self.free_where(|_, owner, _, limbo| owner == id && limbo == list);
         }
-        let behind = self.domain.processes.iter().filter(|process| process.epoch != global).count();
+        let behind = self.compared(Mistake::WaitsForAbsentEpoch).filter(|process| process.epoch != global).count();
         if behind <= self.rules.have(Mistake::AdvancesWithOneBehind) as usize {
             self.domain.epoch = (global + 1) % 3;
         }
         0
+    }
+
+    /// The processes whose epochs or presence words are compared: those that are present, and by a mistake all.
+    fn compared(&self, all: Mistake) -> impl Iterator<Item = &Process> {
+        let all = self.rules.have(all);
+        self.domain.processes.iter().filter(move |process| process.present || all)
+    }
+
+    fn leave(&mut self, leaver: u32, heir: u32) {
+        let (clock, epoch) = (self.domain.clock, self.domain.process(heir).epoch);
+        let [leaves_nodes, keeps_stamp, keeps_limbo] =
+            [Mistake::LeaveLeavesNodes, Mistake::LeaveKeepsStamp, Mistake::LeaveKeepsLimbo]
+                .map(|mistake| self.rules.have(mistake));
+        for node in self.domain.nodes.iter_mut().filter(|node| node.owner() == Some(leaver) && !leaves_nodes) {
+            if let Node::Retired { guest, retired_at, limbo, .. } = *node {
+                let retired_at = if keeps_stamp { retired_at } else { clock };
+                let limbo = if keeps_limbo { limbo } else { epoch };
+                *node = Node::Retired { owner: heir, guest, retired_at, limbo };
+            }
+        }
+        let process = self.process(leaver);
+        (process.epoch, process.calls, process.presence, process.present) = (0, 0, false, false);
+    }
+
+    fn join(&mut self, id: u32) {
+        let (global, keeps_epoch) = (self.domain.epoch, self.rules.have(Mistake::JoinKeepsEpoch));
+        let process = self.process(id);
+        process.present = true;
+        if !keeps_epoch {
+            process.epoch = global;
+        }
     }
 
     fn clear_presence(&mut self) {

@@ -47,10 +47,27 @@ mistakes! {
     ReinsertTakesRetired
     ReinsertLosesGuest
     ReinsertNotRaised
+    // in leaving and joining
+    LeaveKeepsStamp
+    LeaveKeepsLimbo
+    LeaveLeavesNodes
+    WaitsForAbsentEpoch
+    WaitsForAbsentPresence
+    AbsentMayAct
+    JoinKeepsEpoch
+    // in what a process may leave with, and to whom
+    LeaveWithAssigned
+    LeaveWithStores
+    LeaveWithAllocated
+    LeaveWithRemoved
+    LeaveToAbsent
+    LeaveToSelf
     // in the order of the questions
     AsksOwnerBeforeState
     AsksAgeBeforeClock
     AsksBufferBeforeNode
+    AsksHeirBeforeTies
+    AsksHazardBeforePresent
     // in the check of words
     TakesLongerSlices
     TakesValidatedUnassigned
@@ -63,6 +80,7 @@ mistakes! {
     TakesOwnerOfReachable
     TakesGuestOfFree
     TakesCallsOfQ
+    TakesPresentOfTwo
     TakesStoreToHazardK
     TakesFourthLimbo
     RefusesLastNode
@@ -76,6 +94,8 @@ impl Mistake {
             Mistake::AsksOwnerBeforeState => Some((9, 8)),
             Mistake::AsksAgeBeforeClock => Some((16, 15)),
             Mistake::AsksBufferBeforeNode => Some((13, 7)),
+            Mistake::AsksHeirBeforeTies => Some((22, 21)),
+            Mistake::AsksHazardBeforePresent => Some((6, 20)),
             _ => None,
         }
     }
@@ -91,6 +111,11 @@ impl Mistake {
         Mistake::ChecksRemoved,
         Mistake::AdvancesWithOneBehind,
         Mistake::ProtectKeepsValidated,
+        Mistake::LeaveKeepsLimbo,
+        Mistake::AbsentMayAct,
+        Mistake::JoinKeepsEpoch,
+        Mistake::LeaveWithAssigned,
+        Mistake::LeaveToAbsent,
     ];
 
     /// Those by which a process comes to hold more unfreed nodes than the bound allows.
@@ -104,12 +129,28 @@ impl Mistake {
         Mistake::ReinsertTakesRetired,
         Mistake::ReinsertLosesGuest,
         Mistake::ReinsertNotRaised,
+        Mistake::LeaveLeavesNodes,
     ];
 
-    /// Those that the reference cannot object to: by the time that a scan may free a node, the store of a claim on it is committed, and
-    /// no later one to that hazard is pending. Only the answers tell them from the rules.
-    pub const UNSEEN: &'static [Mistake] =
-        &[Mistake::OwnStoresUnknown, Mistake::OwnFirstStore, Mistake::OwnAssigned, Mistake::OthersStoresKnown];
+    /// Those that the reference cannot object to; only answers and words tell them from the rules.
+    pub const UNSEEN: &'static [Mistake] = &[
+        // by the time that a scan may free a node, the store of a claim on it is committed, and no later one to that hazard is pending
+        Mistake::OwnStoresUnknown,
+        Mistake::OwnFirstStore,
+        Mistake::OwnAssigned,
+        Mistake::OthersStoresKnown,
+        // a claim's store is no later than the first retirement
+        Mistake::LeaveKeepsStamp,
+        // nodes are freed later, and the scans that keep the bound go on
+        Mistake::WaitsForAbsentEpoch,
+        Mistake::WaitsForAbsentPresence,
+        // what stays behind claims nothing, and can only stop the clock or a node's way until its process joins
+        Mistake::LeaveWithStores,
+        Mistake::LeaveWithAllocated,
+        Mistake::LeaveWithRemoved,
+        // the nodes stay on the list of an epoch to which their owner has come
+        Mistake::LeaveToSelf,
+    ];
 }
 
 /// The rules, with at most one mistake in them.

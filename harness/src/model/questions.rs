@@ -1,4 +1,4 @@
-//! Questions 4 to 17, in the paper's order: the first with the answer no gives its number.
+//! Questions 4 to 17 and 20 to 22, in the paper's order: the first with the answer no gives its number.
 
 use super::domain::Process;
 use super::mistake::Mistake;
@@ -19,8 +19,11 @@ const fn ask(number: u32, yes: fn(&Model, Kind, Step) -> bool) -> Question {
 /// After 3, which is asked of words, and 4, whether the kind is known.
 pub const QUESTIONS: &[Question] = &[
     ask(5, |model, kind, step| !kind.reads(Field::Process) || step.process < model.domain.params.processes),
+    ask(20, |model, kind, step| !model.asks_present(kind) || model.of(step).present == (kind != Kind::Join)),
+    ask(21, |model, kind, step| kind != Kind::Leave || model.may_leave(step.process)),
+    ask(22, |model, kind, step| kind != Kind::Leave || model.may_inherit(step)),
     ask(6, |model, kind, step| !kind.reads(Field::Hazard) || step.hazard < model.domain.params.hazards),
-    ask(7, |model, kind, step| !kind.reads(Field::Node) || step.node < model.domain.params.nodes),
+    ask(7, |model, kind, step| !kind.reads_node() || step.node < model.domain.params.nodes),
     ask(8, |model, kind, step| kind.row().needs.is_none_or(|state| model.is_in(state, kind, step.node))),
     ask(9, |model, kind, step| !model.asks_owner(kind) || model.owner(step.node) == step.process),
     ask(10, |model, kind, step| kind != Kind::Check || model.assigned(step).is_some()),
@@ -53,13 +56,34 @@ impl Model {
             return 4;
         };
         let no = |question: &&Question| !(question.yes)(self, kind, step);
-        let first = QUESTIONS.iter().find(no).map_or(0, |question| question.number);
-        match self.rules.early() {
-            Some((early, late)) if (late..early).contains(&first) => {
-                QUESTIONS.iter().filter(|question| question.number == early).find(no).map_or(first, |_| early)
-            }
-            _ => first,
+        let Some(first) = QUESTIONS.iter().position(|question| no(&question)) else {
+            return 0;
+        };
+        let place = |number| QUESTIONS.iter().position(|question| question.number == number).expect("a question");
+        match self.rules.early().map(|(early, late)| (place(early), place(late))) {
+            Some((early, late)) if (late..early).contains(&first) && no(&&QUESTIONS[early]) => QUESTIONS[early].number,
+            _ => QUESTIONS[first].number,
         }
+    }
+
+    fn asks_present(&self, kind: Kind) -> bool {
+        let dropped = self.rules.have(Mistake::AbsentMayAct) && !matches!(kind, Kind::Leave | Kind::Join);
+        kind.reads(Field::Process) && !dropped
+    }
+
+    /// Whether nothing ties the process to the domain.
+    fn may_leave(&self, process: u32) -> bool {
+        use Mistake::*;
+        let dropped = [LeaveWithAssigned, LeaveWithStores, LeaveWithAllocated, LeaveWithRemoved];
+        let mut ties = self.domain.ties(process).into_iter().zip(dropped);
+        ties.all(|(tied, mistake)| !tied || self.rules.have(mistake))
+    }
+
+    /// Whether the second process of a leave is another one that is present.
+    fn may_inherit(&self, step: Step) -> bool {
+        let heir = self.domain.processes.get(step.node as usize);
+        let other = step.node != step.process || self.rules.have(Mistake::LeaveToSelf);
+        other && heir.is_some_and(|heir| heir.present || self.rules.have(Mistake::LeaveToAbsent))
     }
 
     /// Whether the node is in the state that the kind needs.

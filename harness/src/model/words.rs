@@ -2,7 +2,7 @@
 
 use super::domain::{Domain, Hazard, Node, Path, Process, Store};
 use super::mistake::{Mistake, Rules};
-use crate::layout::{word_count, BUFFER, CLOCK, LEAD, LEAD_CALLS, LEAD_STORES, NODE, STORE};
+use crate::layout::{word_count, BUFFER, CLOCK, LEAD, LEAD_CALLS, LEAD_PRESENT, LEAD_STORES, NODE, STORE};
 use crate::params::Params;
 use std::array::from_fn;
 
@@ -97,6 +97,7 @@ impl Reader<'_> {
     fn process(&mut self) -> Option<Process> {
         let mut limits = Process::lead_limits(self.params);
         limits[LEAD_CALLS] += self.rules.have(Mistake::TakesCallsOfQ) as u32;
+        limits[LEAD_PRESENT] += self.rules.have(Mistake::TakesPresentOfTwo) as u32;
         let lead = limits.map(|limit| self.at_most(limit));
         if lead.contains(&None) {
             return None;

@@ -1,101 +1,28 @@
-//! The cases of 'On the edge' and those of the later requests, with answers and words written by hand from the papers, on the library
-//! and on the model.
+//! The cases of 'On the edge' and those of requests 1 and 2.
 
-use crate::layout::{word_count, BUFFER, CLOCK, HAZARD, HEAD, LEAD, LEAD_CALLS, LEAD_STORES, NODE, PATH, STORE};
+use super::case::{
+    by, case, fresh, of, tried, turnover, whole, Case, ASSIGNED, CALLS, EPOCH, FIRST_STORE, NODES, NODES_OF_TWO,
+    PENDING, PRESENCE, PROCESS, VALIDATED,
+};
+use crate::layout::{CLOCK, HAZARD, HEAD, LEAD, NODE, PATH, STORE};
 use crate::library::Calls;
-use crate::model::mistake::Rules;
-use crate::model::step_words;
 use crate::params::Params;
 use crate::report::Report;
-use crate::step::{Answer, Kind, Step};
-
-struct Case {
-    name: &'static str,
-    words: Vec<u32>,
-    steps: Vec<Step>,
-    /// the answers that are not (0, 0): number of the step, refusal, value
-    answers: Vec<(usize, u32, u32)>,
-    /// words afterwards: index, value
-    after: Vec<(usize, u32)>,
-}
-
-const EPOCH: usize = PATH + 1;
-// of process 0 where K = 1
-const CALLS: usize = HEAD + LEAD_CALLS;
-const PRESENCE: usize = HEAD + 2;
-const PENDING: usize = HEAD + LEAD_STORES;
-const ASSIGNED: usize = HEAD + LEAD + 1;
-const VALIDATED: usize = HEAD + LEAD + 2;
-const FIRST_STORE: usize = HEAD + LEAD + HAZARD;
-// of a process where K = 1: all its words
-const PROCESS: usize = LEAD + HAZARD + STORE * BUFFER;
-// of nodes where N = K = 1: its state
-const NODES: [usize; 2] = [HEAD + PROCESS, HEAD + PROCESS + NODE];
-// of nodes where N = 2 and K = 1: the state of the first
-const NODES_OF_TWO: usize = HEAD + 2 * PROCESS;
+use crate::step::{Kind, Step};
 
 pub fn all(report: &mut Report, calls: &Calls) {
     report.test("edge: length at 1, 1, 1 and at 16, 8, 256", || {
         match (calls.length(1, 1, 1), calls.length(16, 8, 256)) {
-            (45, 2121) => Ok("45 and 2121".into()),
+            (46, 2137) => Ok("46 and 2137".into()),
             other => Err(format!("{other:?}")),
         }
     });
-    for case in cases() {
-        report.test(&format!("edge: {}", case.name), || check(calls, &case));
-    }
-}
-
-fn check(calls: &Calls, case: &Case) -> Result<String, String> {
-    let mut words = case.words.clone();
-    holds("library", case, &mut words, |words, step| calls.step(words, step))?;
-    let mut words = case.words.clone();
-    holds("model", case, &mut words, |words, step| step_words(words, step, Rules::default()))?;
-    Ok(format!("{} steps", case.steps.len()))
-}
-
-fn holds(
-    who: &str,
-    case: &Case,
-    words: &mut Vec<u32>,
-    mut take: impl FnMut(&mut Vec<u32>, Step) -> Answer,
-) -> Result<(), String> {
-    for (number, &step) in case.steps.iter().enumerate() {
-        let special = case.answers.iter().find(|answer| answer.0 == number);
-        let expected = special.map_or(Answer::accepted(0), |&(_, refusal, value)| Answer { refusal, value });
-        let answer = take(words, step);
-        if answer != expected {
-            return Err(format!("{who}, step {number}: {answer}, expected {expected}"));
-        }
-    }
-    match case.after.iter().find(|&&(index, value)| words[index] != value) {
-        Some(&(index, value)) => Err(format!("{who}: word {index} is {}, expected {value}", words[index])),
-        None => Ok(()),
-    }
-}
-
-fn fresh(params: Params) -> Vec<u32> {
-    let mut words = params.numbers().to_vec();
-    words.resize(word_count(params), 0);
-    words
-}
-
-fn of(kind: Kind) -> Step {
-    by(0, kind, 0)
-}
-
-fn by(process: u32, kind: Kind, node: u32) -> Step {
-    Step::new(kind, process, 0, node, 0)
-}
-
-/// A node from Free to Retired by process 0.
-fn turnover(node: u32, guest: u32) -> Vec<Step> {
-    [Kind::Allocate, Kind::Publish, Kind::Remove, Kind::Retire].map(|kind| Step::new(kind, 0, 0, node, guest)).to_vec()
+    tried(report, calls, cases());
 }
 
 /// Node 0 retired at clock 0, then ticks, then a second retire, which scans, since C = 1.
 fn scan_after(ticks: usize) -> Vec<Step> {
-    [turnover(0, 70), vec![of(Kind::Tick); ticks], turnover(1, 60)].concat()
+    [turnover(0, 0, 70), vec![of(Kind::Tick); ticks], turnover(0, 1, 60)].concat()
 }
 
 fn cases() -> Vec<Case> {
@@ -104,22 +31,11 @@ fn cases() -> Vec<Case> {
     first.into_iter().chain(requests).flatten().collect()
 }
 
-/// A case from a fresh domain.
-fn case(
-    name: &'static str,
-    params: Params,
-    steps: Vec<Step>,
-    answers: &[(usize, u32, u32)],
-    after: &[(usize, u32)],
-) -> Case {
-    Case { name, words: fresh(params), steps, answers: answers.to_vec(), after: after.to_vec() }
-}
-
 fn scans() -> Vec<Case> {
     let params = Params::of(&[1, 1, 2, 3, 1, 1]);
     let (kept, freed) = ([(NODES[0], 4), (NODES[1], 4)], [(NODES[0], 0), (NODES[1], 4)]);
     let visible = [Kind::Allocate, Kind::Publish, Kind::Protect, Kind::Drain, Kind::Remove, Kind::Retire].map(of);
-    let visible = [visible.to_vec(), vec![of(Kind::Tick); 4], turnover(1, 60)].concat();
+    let visible = [visible.to_vec(), vec![of(Kind::Tick); 4], turnover(0, 1, 60)].concat();
     vec![
         case("T = 3, a scan at clock 3 keeps the node", params, scan_after(3), &[], &kept),
         case("at clock 4 it frees it", params, scan_after(4), &[(11, 0, 1)], &freed),
@@ -129,10 +45,10 @@ fn scans() -> Vec<Case> {
 
 fn thresholds() -> Vec<Case> {
     let full = [vec![of(Kind::Protect); 8], vec![of(Kind::Protect), of(Kind::Clear)]].concat();
-    let (one, two) = (turnover(0, 70), [turnover(0, 70), turnover(1, 60)].concat());
+    let (one, two) = (turnover(0, 0, 70), [turnover(0, 0, 70), turnover(0, 1, 60)].concat());
     let manages = |count| vec![of(Kind::Manage); count];
     let (counted, acted) = ([(CALLS, 2), (PRESENCE, 0), (EPOCH, 0)], [(CALLS, 0), (PRESENCE, 1), (EPOCH, 1)]);
-    let sixth = [turnover(0, 70), manages(6)].concat();
+    let sixth = [turnover(0, 0, 70), manages(6)].concat();
     vec![
         case(
             "the eighth store is taken, the ninth gets 13",
@@ -181,10 +97,11 @@ fn own_stores() -> Vec<Case> {
         let by = |kind| Step::new(kind, id, 0, 0, 0);
         let shown = [of(Kind::Allocate), of(Kind::Publish), by(Kind::Protect), by(Kind::Flush)];
         let retired = [of(Kind::Remove), of(Kind::Retire), of(Kind::Tick), of(Kind::Tick), by(Kind::Clear)];
-        [shown.to_vec(), retired.to_vec(), turnover(1, 60)].concat()
+        [shown.to_vec(), retired.to_vec(), turnover(0, 1, 60)].concat()
     };
-    let stored =
-        |kinds: [Kind; 2]| [turnover(0, 70), vec![of(Kind::Tick); 2], kinds.map(of).to_vec(), turnover(1, 60)].concat();
+    let stored = |kinds: [Kind; 2]| {
+        [turnover(0, 0, 70), vec![of(Kind::Tick); 2], kinds.map(of).to_vec(), turnover(0, 1, 60)].concat()
+    };
     let (freed, kept) = ([(NODES[0], 0), (NODES[1], 4)], [(NODES[0], 4), (NODES[1], 4)]);
     vec![
         case("an own hazard cleared and not drained: freed", one, cleared(0), &[(12, 0, 1)], &freed),
@@ -209,20 +126,9 @@ fn stray() -> Case {
     Case {
         name: "of the stored and the assigned node the stored one counts",
         words,
-        steps: turnover(2, 60),
+        steps: turnover(0, 2, 60),
         answers: vec![(3, 0, 1)],
         after: vec![(NODES[0], 4), (NODES[1], 0)],
-    }
-}
-
-/// A case in which every word is looked at afterwards.
-fn whole(name: &'static str, words: Vec<u32>, steps: &[Step], answers: &[(usize, u32, u32)], after: Vec<u32>) -> Case {
-    Case {
-        name,
-        words,
-        steps: steps.to_vec(),
-        answers: answers.to_vec(),
-        after: after.into_iter().enumerate().collect(),
     }
 }
 
@@ -283,7 +189,7 @@ fn after_reinserts() -> Vec<Case> {
     let late = steps(&[(0, Remove), (1, Protect), (1, Check), (0, Reinsert), (1, Use), (1, Check), (1, Use)]);
     let passed_on = steps(&[(0, Remove), (0, Reinsert), (1, Remove), (0, Reinsert), (0, Retire)]);
     let retired = steps(&[(0, Remove), (0, Reinsert), (0, Retire), (0, Remove), (0, Retire)]);
-    let scanned = [retired.clone(), vec![of(Tick); 4], turnover(1, 60)].concat();
+    let scanned = [retired.clone(), vec![of(Tick); 4], turnover(0, 1, 60)].concat();
     let managed = [retired, vec![of(Manage); 6]].concat();
     let node = |words: [u32; NODE]| (NODES_OF_TWO..).zip(words).collect::<Vec<_>>();
     let mut kept = node([2, 0, 70, 0, 0]);

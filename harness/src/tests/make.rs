@@ -36,7 +36,8 @@ pub fn make(calls: &Calls, seed: u64) -> Result<String, String> {
     for index in 0..20_000 {
         let mut random = Random::new(seed ^ 0x3a4e, index);
         let params = some_params(&mut random);
-        let right = if params.in_range() { word_count(params) } else { 45 + random.below(400) as usize };
+        let right =
+            if params.in_range() { word_count(params) } else { word_count(Params::LEAST) + random.below(400) as usize };
         let length = match random.below(4) {
             0 => *random.of(&[0, 1, 6, 8, 9, right - 1, right + 1, right + 5]),
             _ => right,

@@ -4,6 +4,7 @@ use crate::arbitrary;
 use crate::broken::{every_word, CONDITIONS};
 use crate::compare::{on_words, same};
 use crate::coverage::Coverage;
+use crate::layout::word_count;
 use crate::library::{Calls, Lent};
 use crate::model::domain::Domain;
 use crate::model::mistake::Rules;
@@ -109,7 +110,8 @@ pub fn lengths(calls: &Calls, rules: Rules, seed: u64, coverage: &mut Coverage) 
         let mut words = words_of(&arbitrary::domain(&mut random, params));
         let count = words.len();
         words.extend([0; 5]);
-        let shorter = [0, 1, 5, 6, 7, 8, 9, 10, 44, count / 2, count - 5, count - 2, count - 1];
+        let shorter =
+            [0, 1, 5, 6, 7, 8, 9, 10, word_count(Params::LEAST) - 1, count / 2, count - 5, count - 2, count - 1];
         let longer = [count + 1, count + 2, count + 5];
         for length in shorter.into_iter().chain(longer) {
             if length == count {

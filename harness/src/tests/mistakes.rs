@@ -1,7 +1,7 @@
 //! The comparison is shown to bite: with each mistake switched on in the model, it must find a difference; and the reference must
 //! object to a machine that makes one of those that it can see, and follow one that differs only in what it answers.
 
-use super::{malformed, schedules};
+use super::{malformed, objections, schedules};
 use crate::arbitrary;
 use crate::broken::CONDITIONS;
 use crate::coverage::Coverage;
@@ -22,7 +22,10 @@ pub fn all(report: &mut Report, calls: &Calls, seed: u64) {
         report.test(&format!("told from the model with {mistake:?}"), || found(calls, mistake, seed));
     }
     for &mistake in [Mistake::UNSAFE, Mistake::UNBOUNDED, Mistake::UNFOLLOWED].into_iter().flatten() {
-        report.test(&format!("the reference objects to {mistake:?}"), || objected(mistake, seed, 20 * ROUNDS));
+        report.test(&format!("the reference objects to {mistake:?}"), || match objections::by_hand(mistake) {
+            Some((params, schedule)) => objections::tried(mistake, params, &schedule),
+            None => objected(mistake, seed, 20 * ROUNDS),
+        });
     }
     for &mistake in Mistake::UNSEEN {
         report.test(&format!("the reference follows {mistake:?}"), || match objected(mistake, seed, ROUNDS) {

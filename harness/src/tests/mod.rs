@@ -1,10 +1,13 @@
 //! The tests, by what they try.
 
 pub mod books;
+mod case;
 pub mod edges;
 pub mod examples;
+pub mod leaving;
 pub mod make;
 pub mod malformed;
 pub mod mistakes;
+mod objections;
 pub mod runs;
 pub mod schedules;

@@ -49,6 +49,12 @@ array-copy-out-result-13 c = search needs
 array-copy-out-result-14 : tie.Need-array-copy-out-result-14
 array-copy-out-result-14 c = search needs
 
+array-copy-out-result-15 : tie.Need-array-copy-out-result-15
+array-copy-out-result-15 c = search needs
+
+array-copy-out-result-16 : tie.Need-array-copy-out-result-16
+array-copy-out-result-16 c = search needs
+
 returns : tie.Need-returns
 returns c = ap (λ n. rowCode (kindOf n)) (sym (c .before .match .keys1))
 
@@ -92,9 +98,15 @@ returns-14 : tie.Need-returns-14
 returns-14 c = ap (λ n. rowCode (kindOf n)) (sym (c .before .match .keys14))
 
 returns-15 : tie.Need-returns-15
-returns-15 c =
+returns-15 c = ap (λ n. rowCode (kindOf n)) (sym (c .before .match .keys15))
+
+returns-16 : tie.Need-returns-16
+returns-16 c = ap (λ n. rowCode (kindOf n)) (sym (c .before .match .keys16))
+
+returns-17 : tie.Need-returns-17
+returns-17 c =
     let none = none-of (c .before .args .kind) (search needs) (search needs) (search needs) (search needs) (search needs) (search needs) (search needs)
-    (search needs) (search needs) (search needs) (search needs) (search needs) (search needs) (search needs) in
+    (search needs) (search needs) (search needs) (search needs) (search needs) (search needs) (search needs) (search needs) (search needs) in
     ap rowCode (sym none)
 
 pub row-of-spec : {M : Type 1} → statement M
@@ -115,6 +127,8 @@ row-of-spec =
     array-copy-out-result-12
     array-copy-out-result-13
     array-copy-out-result-14
+    array-copy-out-result-15
+    array-copy-out-result-16
     returns
     returns-2
     returns-3
@@ -129,4 +143,6 @@ row-of-spec =
     returns-12
     returns-13
     returns-14
-    returns-15)
+    returns-15
+    returns-16
+    returns-17)

@@ -9,7 +9,7 @@ use lib.ListN.{length}
 use Rattle.model.specs.Params.{wordCount}
 use Rattle.layout.specs.Values.{paramsValue}
 use Rattle.layout.specs.Ranges.{inRange}
-use Rattle.layout.proofs.Ranges.{length-in-range}
+use Rattle.layout.proofs.Ranges.{in-range, length-in-range}
 use Rattle.qsense.specs.Calls.{makeWords}
 use Rattle.qsense.proofs.make.Statement.{statement}
 use Rattle.qsense.proofs.make.Tie as tie
@@ -43,8 +43,9 @@ returns-2 c =
 write-fresh-requires : tie.Need-write-fresh-requires
 write-fresh-requires c κs =
     let at-else = c .before .before .before .before in
-    let long = length-in-range (paramsValue (at-else .before .before .before .args .params)) (checked at-else) in
-    omega (arith, long)
+    let a = paramsValue (at-else .before .before .before .args .params) in
+    let long = length-in-range a (checked at-else) in
+    (in-range a (checked at-else), omega (arith, long))
 
 same-length : tie.Need-same-length
 same-length c = search needs

@@ -2,12 +2,14 @@
 use native.Mathlib.Omega.{arith}
 use borrow.Author.Needs.{needs}
 use Rattle.trace.specs.Values.{headerValue}
-use Rattle.replay.proofs.Whole.{inside, few-steps, first-line, made-sound, last-line, replayed}
+use Rattle.replay.proofs.Whole.{inside, ranged, few-steps, first-line, made-sound, last-line, replayed}
 use Rattle.replay.proofs.replay.Statement.{statement}
 use Rattle.replay.proofs.replay.Tie as tie
 
 write-fresh-requires : tie.Need-write-fresh-requires
-write-fresh-requires c κs = search needs
+write-fresh-requires c κs =
+    let start = c .before .before .before .before in
+    (ranged (start .args .bytes .now) (headerValue (start .args .header)) (start .pre .0), omega (arith, start .pre))
 
 put-params-requires : tie.Need-put-params-requires
 put-params-requires c κs =

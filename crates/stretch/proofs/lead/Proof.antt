@@ -1,4 +1,4 @@
--- `stretch::lead` meets its contract: the four words, and the length of a buffer is the fourth. Assumes nothing.
+-- `stretch::lead` meets its contract: the five words, and the length of a buffer is the fourth. Assumes nothing.
 use borrow.Author.Needs.{needs}
 use Rattle.stretch.proofs.Words.{lead-at}
 use Rattle.stretch.proofs.lead.Statement.{statement}
@@ -16,6 +16,9 @@ shared-slice-read-t7 c = search needs
 shared-slice-read-t9 : tie.Need-shared-slice-read-t9
 shared-slice-read-t9 c = search needs
 
+shared-slice-read-t11 : tie.Need-shared-slice-read-t11
+shared-slice-read-t11 c = search needs
+
 returns : tie.Need-returns
 returns c = λ k. lead-at k _
 
@@ -27,4 +30,5 @@ lead-spec =
     shared-slice-read-t5
     shared-slice-read-t7
     shared-slice-read-t9
+    shared-slice-read-t11
     returns)

@@ -11,6 +11,7 @@ use harness::params::Params;
 use harness::step::{Kind, Step};
 
 const STEPS: usize = 5_000;
+const HEIR: u32 = 1;
 
 struct Cycle {
     name: &'static str,
@@ -24,6 +25,7 @@ const CYCLES: &[Cycle] = &[
     Cycle { name: "use", before: &[Allocate, Publish, Protect, Check], again: &[Use] },
     Cycle { name: "check", before: &[Allocate, Publish, Protect], again: &[Check] },
     Cycle { name: "remove, reinsert", before: &[Allocate, Publish], again: &[Remove, Reinsert] },
+    Cycle { name: "leave, join", before: &[], again: &[Leave, Join] },
     Cycle { name: "protect, drain", before: &[], again: &[Protect, Drain] },
     Cycle { name: "protect, flush", before: &[], again: &[Protect, Flush] },
     Cycle { name: "clear, drain", before: &[], again: &[Clear, Drain] },
@@ -40,13 +42,16 @@ const CYCLES: &[Cycle] = &[
     },
 ];
 
-/// All steps are of process 0, hazard 0 and node 0, on a fresh domain; where manage frees, on one of a single process.
+/// All steps are of process 0, hazard 0 and node 0, on a fresh domain; where manage frees, on one of a single process. A leave is to
+/// process 1, where there is one.
 pub fn all(params: Params, table: &mut Table) {
-    for cycle in CYCLES {
+    let has_heir = |cycle: &&Cycle| params.processes > HEIR || !cycle.again.contains(&Leave);
+    for cycle in CYCLES.iter().filter(has_heir) {
         let alone = cycle.again.contains(&Retire);
         let params = if alone { Params { processes: 1, ..params } } else { params };
         let mut model = Model { rules: Rules::default(), domain: Domain::fresh(params) };
-        let step = |&kind: &Kind| (0, Step::new(kind, 0, 0, 0, 70));
+        let node = |kind: Kind| if kind.row().heir { HEIR } else { 0 };
+        let step = |&kind: &Kind| (0, Step::new(kind, 0, 0, node(kind), 70));
         for (_, step) in cycle.before.iter().map(step) {
             assert_eq!(model.step(step).refusal, 0, "{}", cycle.name);
         }

@@ -89,8 +89,8 @@ pub fn cycle(name: &str) -> Option<Goal> {
     }
 }
 
-/// The slowest retire of a shape beside the fastest, over how many nodes are due.
-pub fn retires(params: Params) -> Option<Goal> {
+/// The slowest retire or leave of a shape beside the fastest, over how many nodes are due or handed over.
+pub fn spread(params: Params) -> Option<Goal> {
     if greatest(params) {
         beside(Beside::Fastest, 1.2)
     } else {

@@ -6,10 +6,12 @@
 mod callers;
 mod cycles;
 mod goals;
+mod leave;
 mod processes;
 mod race;
 mod retire;
 mod rows;
+mod single;
 mod table;
 
 use harness::params::Params;
@@ -32,7 +34,7 @@ fn main() {
     let mut table = Table::default();
     table.head();
     let shapes = SHAPES.map(|numbers| Params::of(&numbers));
-    for all in [rows::all, retire::all, cycles::all] {
+    for all in [rows::all, retire::all, leave::all, cycles::all] {
         shapes.into_iter().for_each(|params| all(params, &mut table));
     }
     if let Some(desk) = desk {

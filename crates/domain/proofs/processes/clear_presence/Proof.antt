@@ -1,4 +1,4 @@
--- `processes::clear_presence` meets its contract: the processes passed are absent, the others as they were. Assumes nothing.
+-- `processes::clear_presence` meets its contract: the presence words of the processes passed are 0, the others as they were. Assumes nothing.
 use Prim.Native.Nat.{_-_}
 use Rattle.domain.proofs.Clearing.{Clearing, starts, turn, ends}
 use borrow.Author.Needs.{needs}

@@ -1,9 +1,12 @@
 //! What a run of tests has met: without these counts, agreement would say little.
 
+mod leaving;
+
 use crate::layout::BUFFER;
 use crate::model::domain::{Domain, Node, Path};
 use crate::model::questions::{LAST_QUESTION, QUESTIONS};
 use crate::step::{Answer, Field, Kind, Step};
+use leaving::Leaving;
 
 #[derive(Default)]
 pub struct Coverage {
@@ -22,6 +25,7 @@ pub struct Coverage {
     used_after_reinsert: u64,
     clock_at_end: u64,
     unread_fields: u64,
+    leaving: Leaving,
     // of the domain before the step in hand
     path: Option<Path>,
     pending: usize,
@@ -36,10 +40,12 @@ impl Coverage {
     /// Begins a run.
     pub fn begin(&mut self) {
         self.lived_on.clear();
+        self.leaving.begin();
     }
 
     /// Notes what is about to be changed by a step.
     pub fn before(&mut self, domain: &Domain, step: Step) {
+        self.leaving.before(domain, step);
         self.path = Some(domain.path);
         let process = domain.processes.get(step.process as usize);
         self.pending = process.map_or(0, |process| process.buffer.len());
@@ -58,6 +64,7 @@ impl Coverage {
         };
         self.accepted[step.kind as usize] += 1;
         self.unread_fields += has_unread(kind, step) as u64;
+        self.leaving.after(domain, kind, step);
         self.to_fallback += (self.path == Some(Path::Fast) && domain.path == Path::Fallback) as u64;
         self.to_fast += (self.path == Some(Path::Fallback) && domain.path == Path::Fast) as u64;
         match kind {
@@ -105,7 +112,7 @@ impl Coverage {
             ("steps at the last clock", self.clock_at_end),
             ("accepted with unread fields", self.unread_fields),
         ];
-        let others = others.map(|(name, count)| (name.to_string(), count));
+        let others = others.into_iter().chain(self.leaving.counts()).map(|(name, count)| (name.to_string(), count));
         kinds.chain(numbers).chain(others).collect()
     }
 

@@ -1,0 +1,67 @@
+/* Part of plain.c: retire, with its scan and the switch to the fallback path. */
+#ifndef RETIRE_H
+#define RETIRE_H
+
+#include "words.h"
+
+#include <string.h>
+
+static void clear_presence(uint32_t *w) {
+    for (uint32_t p = 0; p < w[N]; p++) process_at(w, p)[PRESENCE] = 0;
+}
+
+static uint32_t retired_by(uint32_t *w, uint32_t p) {
+    uint32_t count = 0;
+    for (uint32_t c = 0; c < w[M]; c++) {
+        const uint32_t *x = node_at(w, c);
+        count += x[STATE] == RETIRED && x[OWNER] == p;
+    }
+    return count;
+}
+
+/* What process p sees in its own hazards: the node of the last pending store to each, or else the visible one. */
+static void mark_own(uint32_t *w, uint32_t p, bool *seen) {
+    uint32_t nodes[MAX_HAZARDS];
+    for (uint32_t h = 0; h < w[K]; h++) nodes[h] = hazard_at(w, p, h)[VISIBLE];
+    const uint32_t *s = stores_of(w, p);
+    for (uint32_t i = 0; i < process_at(w, p)[PENDING]; i++) nodes[s[STORE * i + STORE_HAZARD]] = s[STORE * i + STORE_NODE];
+    for (uint32_t h = 0; h < w[K]; h++) seen[nodes[h]] = true;
+}
+
+/* Nodes in hazards are marked first, as in Michael's scan, so that each node is looked up and not searched for. */
+static uint32_t scan(uint32_t *w, uint32_t p) {
+    bool seen[MAX_NODES + 1] = {false};
+    for (uint32_t q = 0; q < w[N]; q++) {
+        if (q == p)
+            mark_own(w, p, seen);
+        else
+            for (uint32_t h = 0; h < w[K]; h++) seen[hazard_at(w, q, h)[VISIBLE]] = true;
+    }
+    uint32_t freed = 0;
+    for (uint32_t c = 0; c < w[M]; c++) {
+        uint32_t *x = node_at(w, c);
+        if (x[STATE] == RETIRED && x[OWNER] == p && w[CLOCK] - x[RETIRED_AT] > w[T] && !seen[c + 1]) {
+            memset(x, 0, NODE * sizeof *x);
+            freed++;
+        }
+    }
+    return freed;
+}
+
+static qsense_answer retire(uint32_t *w, uint32_t p, uint32_t c) {
+    if (c >= w[M]) return refused(7);
+    uint32_t *x = node_at(w, c);
+    if (x[STATE] != REMOVED) return refused(8);
+    if (x[OWNER] != p) return refused(9);
+    x[STATE] = RETIRED;
+    x[RETIRED_AT] = w[CLOCK];
+    x[LIMBO] = process_at(w, p)[LOCAL_EPOCH];
+    if (w[PATH] == FAST) {
+        if (retired_by(w, p) < w[C]) return accepted(0);
+        w[PATH] = FALLBACK;
+        clear_presence(w);
+    }
+    return accepted(scan(w, p));
+}
+
+#endif
