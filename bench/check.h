@@ -33,7 +33,7 @@ static bool node_well_formed(const uint32_t *x, uint32_t n, uint32_t clock) {
 
 static bool well_formed(const uint32_t *w, size_t len) {
     if (len < HEAD) return false;
-    if (!within(w[T], 1, 1000) || !within(w[Q], 1, 1000) || !within(w[C], 1, 256)) return false;
+    if (!within(w[T], 1, 1000) || !within(w[Q], 1, 1000) || !within(w[C], 1, 256) || !within(w[E], 0, 1000)) return false;
     if (w[PATH] > FALLBACK || w[EPOCH] > 2) return false;
     if (len != plain_length(w[N], w[K], w[M])) return false;
     const uint32_t n = w[N], k = w[K], m = w[M], q = w[Q], clock = w[CLOCK];

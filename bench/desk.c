@@ -4,7 +4,7 @@
 #include <stdio.h>
 #include <string.h>
 
-enum { GREATEST = 65536, PARAMETERS = 24, STEP = 12, TRAILER = 12, MOST_WORDS = 2137 };
+enum { GREATEST = 65536, PARAMETERS = 28, STEP = 12, TRAILER = 12, MOST_WORDS = 2138 };
 
 static uint8_t book[GREATEST + 1];
 static uint32_t words[MOST_WORDS];
@@ -33,12 +33,12 @@ int main(void) {
     uint32_t p[PARAMETERS / 4];
     for (size_t i = 0; i < PARAMETERS / 4; i++, at += 4) p[i] = word(at);
     uint32_t length = plain_length(p[0], p[1], p[2]);
-    if (plain_make(words, length, p[0], p[1], p[2], p[3], p[4], p[5]).refusal != 0) return refused(1);
-    printf("desk %u %u %u %u %u %u\n", p[0], p[1], p[2], p[3], p[4], p[5]);
+    if (plain_make(words, length, p[0], p[1], p[2], p[3], p[4], p[5], p[6]).refusal != 0) return refused(1);
+    printf("desk %u %u %u %u %u %u %u\n", p[0], p[1], p[2], p[3], p[4], p[5], p[6]);
     for (uint64_t i = 0; i < count; i++, at += STEP) {
         qsense_answer a = plain_step(words, length, at[0], at[1], at[2], word(at + 4), word(at + 8));
         printf("%u %u %u %u %u\n", (uint32_t)i, at[0], a.refusal, a.value, plain_reachable(words, length).value);
     }
-    printf("end %u %u %u\n", words[6], words[7], plain_reachable(words, length).value);
+    printf("end %u %u %u\n", words[7], words[8], plain_reachable(words, length).value);
     return 0;
 }

@@ -9,10 +9,11 @@
 
 static qsense_answer tick(uint32_t *w) {
     if (w[CLOCK] == UINT32_MAX) return refused(15);
+    const uint32_t due = delay(w);
     for (uint32_t p = 0; p < w[N]; p++) {
         const uint32_t *s = stores_of(w, p);
         for (uint32_t i = 0; i < process_at(w, p)[PENDING]; i++)
-            if (w[CLOCK] - s[STORE * i + STORE_TIME] >= w[T]) return refused(16);
+            if (w[CLOCK] - s[STORE * i + STORE_TIME] >= due) return refused(16);
     }
     w[CLOCK]++;
     return accepted(0);

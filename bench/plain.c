@@ -44,11 +44,12 @@ uint32_t plain_length(uint32_t n, uint32_t k, uint32_t m) {
     return HEAD + n * process_width(k) + NODE * m;
 }
 
-qsense_answer plain_make(uint32_t *words, size_t len, uint32_t n, uint32_t k, uint32_t m, uint32_t t, uint32_t q, uint32_t c) {
+qsense_answer plain_make(uint32_t *words, size_t len, uint32_t n, uint32_t k, uint32_t m, uint32_t t, uint32_t q,
+                         uint32_t c, uint32_t e) {
     uint32_t length = plain_length(n, k, m);
-    if (length == 0 || !within(t, 1, 1000) || !within(q, 1, 1000) || !within(c, 1, 256)) return refused(1);
+    if (length == 0 || !within(t, 1, 1000) || !within(q, 1, 1000) || !within(c, 1, 256) || !within(e, 0, 1000)) return refused(1);
     if (len != length) return refused(2);
-    const uint32_t parameters[] = {n, k, m, t, q, c};
+    const uint32_t parameters[] = {n, k, m, t, q, c, e};
     memset(words, 0, len * sizeof *words);
     memcpy(words, parameters, sizeof parameters);
     for (uint32_t p = 0; p < n; p++) process_at(words, p)[PRESENT] = 1;

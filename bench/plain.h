@@ -5,7 +5,8 @@
 #include "../include/qsense.h"
 
 uint32_t plain_length(uint32_t n, uint32_t k, uint32_t m);
-qsense_answer plain_make(uint32_t *words, size_t len, uint32_t n, uint32_t k, uint32_t m, uint32_t t, uint32_t q, uint32_t c);
+qsense_answer plain_make(uint32_t *words, size_t len, uint32_t n, uint32_t k, uint32_t m, uint32_t t, uint32_t q,
+                         uint32_t c, uint32_t e);
 qsense_answer plain_step(uint32_t *words, size_t len, uint32_t kind, uint32_t process, uint32_t hazard, uint32_t node, uint32_t guest);
 qsense_answer plain_reachable(const uint32_t *words, size_t len);
 bool plain_run(uint32_t *words, size_t len, const uint32_t *steps, size_t steps_len, uint32_t *answers, size_t answers_len);

@@ -37,10 +37,11 @@ static uint32_t scan(uint32_t *w, uint32_t p) {
         else
             for (uint32_t h = 0; h < w[K]; h++) seen[hazard_at(w, q, h)[VISIBLE]] = true;
     }
+    const uint32_t young = delay(w);
     uint32_t freed = 0;
     for (uint32_t c = 0; c < w[M]; c++) {
         uint32_t *x = node_at(w, c);
-        if (x[STATE] == RETIRED && x[OWNER] == p && w[CLOCK] - x[RETIRED_AT] > w[T] && !seen[c + 1]) {
+        if (x[STATE] == RETIRED && x[OWNER] == p && w[CLOCK] - x[RETIRED_AT] > young && !seen[c + 1]) {
             memset(x, 0, NODE * sizeof *x);
             freed++;
         }

@@ -5,8 +5,9 @@ uint32_t qsense_length(uint32_t n, uint32_t k, uint32_t m) {
     return plain_length(n, k, m);
 }
 
-qsense_answer qsense_make(uint32_t *words, size_t len, uint32_t n, uint32_t k, uint32_t m, uint32_t t, uint32_t q, uint32_t c) {
-    return plain_make(words, len, n, k, m, t, q, c);
+qsense_answer qsense_make(uint32_t *words, size_t len, uint32_t n, uint32_t k, uint32_t m, uint32_t t, uint32_t q,
+                          uint32_t c, uint32_t e) {
+    return plain_make(words, len, n, k, m, t, q, c, e);
 }
 
 qsense_answer qsense_step(uint32_t *words, size_t len, uint32_t kind, uint32_t process, uint32_t hazard, uint32_t node,

@@ -4,7 +4,7 @@
 
 #include "plain.h"
 
-enum { N, K, M, T, Q, C, CLOCK, PATH, EPOCH, HEAD };              /* the words of the head, and their number; so below */
+enum { N, K, M, T, Q, C, E, CLOCK, PATH, EPOCH, HEAD };           /* the words of the head, and their number; so below */
 enum { LOCAL_EPOCH, CALLS, PRESENCE, PENDING, PRESENT, PROCESS }; /* of a process, before its hazards and its stores */
 enum { VISIBLE, ASSIGNED, VALIDATED, HAZARD };                    /* of a hazard; a node is held as node + 1, 0 for none */
 enum { STORE_HAZARD, STORE_NODE, STORE_TIME, STORE };             /* of a pending store */
@@ -45,6 +45,11 @@ static uint32_t *stores_of(uint32_t *w, uint32_t p) {
 
 static uint32_t *node_at(uint32_t *w, uint32_t c) {
     return process_at(w, w[N]) + NODE * c;
+}
+
+/* No store stays pending for more ticks than this: a flush comes within T, and up to E late. */
+static uint32_t delay(const uint32_t *w) {
+    return w[T] + w[E];
 }
 
 #endif

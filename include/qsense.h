@@ -24,7 +24,7 @@ typedef struct {
     uint32_t value;
 } qsense_answer;
 
-/* How many words a domain takes: 9 + n * (29 + 3 * k) + 5 * m, from 46 to 2137. 0 unless n, k and m are each in range.
+/* How many words a domain takes: 10 + n * (29 + 3 * k) + 5 * m, from 47 to 2138. 0 unless n, k and m are each in range.
  * It reads and changes no words and is never refused. */
 uint32_t qsense_length(uint32_t n, uint32_t k, uint32_t m);
 
@@ -33,13 +33,15 @@ uint32_t qsense_length(uint32_t n, uint32_t k, uint32_t m);
  *   n  N, processes, 1 to 16
  *   k  K, hazards of each process, 1 to 8
  *   m  M, nodes, 1 to 256
- *   t  T, 1 to 1000: within so many ticks a store is visible
+ *   t  T, 1 to 1000: within so many ticks a store is visible, if flushes come in time
  *   q  Q, 1 to 1000: every Q-th manage of a process acts
  *   c  C, 1 to 256: a process with so many Retired nodes leaves the fast path
+ *   e  E, 0 to 1000: a flush may come so many ticks late
  * The value is 0. Refused, with no word changed:
  *   1  a parameter is out of range
  *   2  len is not qsense_length(n, k, m) */
-qsense_answer qsense_make(uint32_t *words, size_t len, uint32_t n, uint32_t k, uint32_t m, uint32_t t, uint32_t q, uint32_t c);
+qsense_answer qsense_make(uint32_t *words, size_t len, uint32_t n, uint32_t k, uint32_t m, uint32_t t, uint32_t q,
+                          uint32_t c, uint32_t e);
 
 /* Takes one step. Only the fields named with a kind are read.
  *    1  allocate (process, node, guest)    Free to Allocated, with this owner and guest
@@ -60,8 +62,8 @@ qsense_answer qsense_make(uint32_t *words, size_t len, uint32_t n, uint32_t k, u
  *   16  join (process)                     the process is present again, at the global epoch
  * The heir of a leave is a second process, and stands in the field of the node. An absent process takes no step but a join; neither the
  * global epoch nor the way back to the fast path waits for it. Its hazards and its pending stores still count.
- * A scan frees the Retired nodes of the process that were retired more than T ticks ago and that it sees in no hazard: its own hazards count
- * as the node of the last pending store to them, or else as the visible one, those of others as the visible one.
+ * A scan frees the Retired nodes of the process that were retired more than T + E ticks ago and that it sees in no hazard: its own hazards
+ * count as the node of the last pending store to them, or else as the visible one, those of others as the visible one.
  * The value is 0 where none is named. Refused at the first no, in this order, with value 0 and no word changed:
  *    3  the words are a well-formed domain
  *    4  the kind is 1 to 16
@@ -79,7 +81,7 @@ qsense_answer qsense_make(uint32_t *words, size_t len, uint32_t n, uint32_t k, u
  *   13  the process has fewer than 8 pending stores (3, 6)
  *   14  it has one (9)
  *   15  the clock is below 4294967295 (11)
- *   16  every pending store of every process is younger than T ticks (11)
+ *   16  every pending store of every process is younger than T + E ticks (11)
  *   17  no hazard of the process has a node assigned (12) */
 qsense_answer qsense_step(uint32_t *words, size_t len, uint32_t kind, uint32_t process, uint32_t hazard, uint32_t node,
                           uint32_t guest);

@@ -3,9 +3,9 @@
 #include <stdio.h>
 
 int main(void) {
-    uint32_t words[2137]; /* room for the greatest domain */
+    uint32_t words[2138]; /* room for the greatest domain */
     size_t len = qsense_length(2, 1, 2);
-    qsense_answer made = qsense_make(words, len, 2, 1, 2, 3, 1, 1);
+    qsense_answer made = qsense_make(words, len, 2, 1, 2, 3, 1, 1, 0);
     qsense_step(words, len, 1, 0, 0, 0, 70);                       /* process 0 allocates node 0 for guest 70 */
     qsense_step(words, len, 2, 0, 0, 0, 0);                        /* and publishes it */
     qsense_step(words, len, 3, 1, 0, 0, 0);                        /* process 1 protects it by its hazard 0 */

@@ -9,14 +9,14 @@ struct Answer {
 // as in include/qsense.h
 extern "C" {
     fn qsense_length(n: u32, k: u32, m: u32) -> u32;
-    fn qsense_make(words: *mut u32, len: usize, n: u32, k: u32, m: u32, t: u32, q: u32, c: u32) -> Answer;
+    fn qsense_make(words: *mut u32, len: usize, n: u32, k: u32, m: u32, t: u32, q: u32, c: u32, e: u32) -> Answer;
     fn qsense_step(words: *mut u32, len: usize, kind: u32, process: u32, hazard: u32, node: u32, guest: u32) -> Answer;
     fn qsense_reachable(words: *const u32, len: usize) -> Answer;
 }
 
 fn main() {
     let mut words = vec![0; unsafe { qsense_length(2, 1, 2) } as usize];
-    let made = unsafe { qsense_make(words.as_mut_ptr(), words.len(), 2, 1, 2, 3, 1, 1) };
+    let made = unsafe { qsense_make(words.as_mut_ptr(), words.len(), 2, 1, 2, 3, 1, 1, 0) };
     let mut step = |kind, process, hazard, node, guest| unsafe {
         qsense_step(words.as_mut_ptr(), words.len(), kind, process, hazard, node, guest)
     };

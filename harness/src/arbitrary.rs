@@ -57,12 +57,12 @@ impl Shape<'_> {
         Store { hazard: self.random.below(self.params.hazards), node: self.stored(), time: self.time() }
     }
 
-    /// A time at most the clock, mostly about the visibility bound ago.
+    /// A time at most the clock, mostly about the delay ago.
     fn time(&mut self) -> u32 {
         match self.random.below(4) {
             0 => self.random.up_to(self.clock),
             1 => self.clock,
-            _ => self.clock.saturating_sub(self.random.up_to(self.params.visibility_bound + 1)),
+            _ => self.clock.saturating_sub(self.random.up_to(self.params.delay() + 1)),
         }
     }
 

@@ -52,7 +52,7 @@ impl<'a> Lockstep<'a> {
         self.agree("step", answer, expected)?;
         let panel = self.calls.reachable(self.lent.words());
         self.agree("reachable", panel, Answer::accepted(self.model.domain.reachable()))?;
-        self.count(step, answer);
+        self.panel = counted(self.panel, step, answer);
         if panel.value != self.panel {
             return Err(format!("reachable: {}, but {} by the accepted steps", panel.value, self.panel));
         }
@@ -63,17 +63,18 @@ impl<'a> Lockstep<'a> {
         Ok(())
     }
 
-    fn count(&mut self, step: Step, answer: Answer) {
-        match (answer.refusal, Kind::from_number(step.kind)) {
-            (0, Some(Kind::Publish | Kind::Reinsert)) => self.panel += 1,
-            (0, Some(Kind::Remove)) => self.panel -= 1,
-            _ => {}
-        }
-    }
-
     fn agree(&mut self, call: &str, answer: Answer, expected: Answer) -> Result<(), String> {
         words::encode(&self.model.domain, &mut self.expected);
         same(call, answer, &self.lent, expected, &self.expected)
+    }
+}
+
+/// The panel's number after a step, from that before it: accepted publishes and reinserts add to it, removes take from it.
+pub fn counted(panel: u32, step: Step, answer: Answer) -> u32 {
+    match (answer.refusal, Kind::from_number(step.kind)) {
+        (0, Some(Kind::Publish | Kind::Reinsert)) => panel + 1,
+        (0, Some(Kind::Remove)) => panel - 1,
+        _ => panel,
     }
 }
 

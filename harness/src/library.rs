@@ -4,7 +4,7 @@ use crate::params::Params;
 use crate::step::{Answer, Kind, Step};
 
 type Length = unsafe extern "C" fn(u32, u32, u32) -> u32;
-type Make = unsafe extern "C" fn(*mut u32, usize, u32, u32, u32, u32, u32, u32) -> Answer;
+type Make = unsafe extern "C" fn(*mut u32, usize, u32, u32, u32, u32, u32, u32, u32) -> Answer;
 type StepCall = unsafe extern "C" fn(*mut u32, usize, u32, u32, u32, u32, u32) -> Answer;
 type Reachable = unsafe extern "C" fn(*const u32, usize) -> Answer;
 type Run = unsafe extern "C" fn(*mut u32, usize, *const u32, usize, *mut u32, usize) -> bool;
@@ -12,12 +12,12 @@ type Run = unsafe extern "C" fn(*mut u32, usize, *const u32, usize, *mut u32, us
 // as in include/qsense.h and bench/plain.h
 extern "C" {
     fn qsense_length(n: u32, k: u32, m: u32) -> u32;
-    fn qsense_make(w: *mut u32, len: usize, n: u32, k: u32, m: u32, t: u32, q: u32, c: u32) -> Answer;
+    fn qsense_make(w: *mut u32, len: usize, n: u32, k: u32, m: u32, t: u32, q: u32, c: u32, e: u32) -> Answer;
     fn qsense_step(w: *mut u32, len: usize, kind: u32, process: u32, hazard: u32, node: u32, guest: u32) -> Answer;
     fn qsense_reachable(w: *const u32, len: usize) -> Answer;
     fn qsense_run(w: *mut u32, len: usize, s: *const u32, s_len: usize, a: *mut u32, a_len: usize) -> bool;
     fn plain_length(n: u32, k: u32, m: u32) -> u32;
-    fn plain_make(w: *mut u32, len: usize, n: u32, k: u32, m: u32, t: u32, q: u32, c: u32) -> Answer;
+    fn plain_make(w: *mut u32, len: usize, n: u32, k: u32, m: u32, t: u32, q: u32, c: u32, e: u32) -> Answer;
     fn plain_step(w: *mut u32, len: usize, kind: u32, process: u32, hazard: u32, node: u32, guest: u32) -> Answer;
     fn plain_reachable(w: *const u32, len: usize) -> Answer;
     fn plain_run(w: *mut u32, len: usize, s: *const u32, s_len: usize, a: *mut u32, a_len: usize) -> bool;
@@ -47,8 +47,8 @@ impl Calls {
     }
 
     pub fn make(&self, words: &mut [u32], params: Params) -> Answer {
-        let [n, k, m, t, q, c] = params.numbers();
-        unsafe { (self.make)(words.as_mut_ptr(), words.len(), n, k, m, t, q, c) }
+        let [n, k, m, t, q, c, e] = params.numbers();
+        unsafe { (self.make)(words.as_mut_ptr(), words.len(), n, k, m, t, q, c, e) }
     }
 
     pub fn step(&self, words: &mut [u32], step: Step) -> Answer {
@@ -69,8 +69,8 @@ impl Calls {
     pub fn on_nothing(&self) -> ([Answer; 3], bool) {
         let (none, no) = (std::ptr::null_mut(), std::ptr::null());
         unsafe {
-            let [n, k, m, t, q, c] = Params::LEAST.numbers();
-            let made = (self.make)(none, 0, n, k, m, t, q, c);
+            let [n, k, m, t, q, c, e] = Params::LEAST.numbers();
+            let made = (self.make)(none, 0, n, k, m, t, q, c, e);
             let stepped = (self.step)(none, 0, Kind::ClearPresence as u32, 0, 0, 0, 0);
             ([made, stepped, (self.reachable)(no, 0)], (self.run)(none, 0, no, 0, none, 0))
         }

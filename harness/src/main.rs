@@ -8,7 +8,7 @@ use harness::coverage::Coverage;
 use harness::library::{PLAIN, QSENSE};
 use harness::model::mistake::Rules;
 use harness::report::Report;
-use harness::tests::{books, edges, examples, leaving, make, malformed, mistakes, runs, schedules};
+use harness::tests::{books, edges, examples, late, leaving, make, malformed, mistakes, runs, schedules};
 use std::path::PathBuf;
 use std::process::ExitCode;
 use std::time::{Duration, Instant, SystemTime, UNIX_EPOCH};
@@ -76,6 +76,7 @@ fn test(options: &Options) -> ExitCode {
     report.test("make", || make::make(&QSENSE, seed));
     edges::all(&mut report, &QSENSE);
     leaving::all(&mut report, &QSENSE);
+    late::all(&mut report, &QSENSE, seed);
     report.test("runs from fresh domains", || schedules::fresh(&QSENSE, seed, options.steps, &mut coverage));
     report.test("arbitrary domains", || schedules::arbitrary(&QSENSE, seed, options.steps / 5, &mut coverage));
     report.test("one word broken", || malformed::one_word(&QSENSE, seed, &mut coverage));

@@ -43,14 +43,21 @@ parameters! {
     quiescence_threshold: 1 to 1000, small 2, middling 4;
     /// C, in nodes
     fallback_threshold: 1 to 256, small 4, middling 20;
+    /// E, in ticks: so late a flush, the paper's rooster, may come
+    lateness: 0 to 1000, small 3, middling 6;
 }
 
 impl Params {
-    /// N, K, M, T, Q, C and so on; those that are not given are at their least.
+    /// N, K, M, T, Q, C, E; those that are not given are at their least.
     pub fn of(first: &[u32]) -> Params {
         let mut numbers = Params::LEAST.numbers();
         numbers[..first.len()].copy_from_slice(first);
         Params::from_numbers(numbers)
+    }
+
+    /// T + E: no store is pending for more ticks, and a scan frees a node that is older.
+    pub fn delay(self) -> u32 {
+        self.visibility_bound + self.lateness
     }
 
     pub fn in_range(self) -> bool {

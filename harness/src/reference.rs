@@ -209,10 +209,10 @@ impl Reference {
         Ok(())
     }
 
-    /// At most max(C - 1, N x K + nodes that the process retired or was handed at most T ticks ago) of its nodes are unfreed.
+    /// At most max(C - 1, N x K + nodes that the process retired or was handed at most T + E ticks ago) of its nodes are unfreed.
     fn bounded(&self, process: u32) -> Result<(), String> {
         let unfreed = self.cells.iter().filter(|cell| cell.state == RETIRED && cell.owner == process).count() as u32;
-        let since = self.clock.saturating_sub(self.params.visibility_bound);
+        let since = self.clock.saturating_sub(self.params.delay());
         let recent = self.retirements.iter().rev().take_while(|retirement| retirement.clock >= since);
         let recent = recent.filter(|retirement| retirement.process == process).count() as u32;
         let visible = self.params.processes * self.params.hazards;

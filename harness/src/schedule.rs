@@ -32,6 +32,12 @@ impl Mood {
                 weights[kind as usize - 1] *= 4;
             }
         }
+        if random.chance(30) {
+            // a clock that moves on, so that stores are due and nodes old
+            for kind in [Kind::Tick, Kind::Flush] {
+                weights[kind as usize - 1] *= 4;
+            }
+        }
         if random.chance(50) {
             weights[Kind::ClearPresence as usize - 1] = 0;
         }

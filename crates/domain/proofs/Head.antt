@@ -4,18 +4,19 @@ use mathlib.Core.List.{List}
 use mathlib.Core.Path.{_≡_, ap}
 use lib.ListN.{set}
 use Rattle.model.specs.State.{withClock, withPath, withEpoch}
+use Rattle.layout.specs.Codecs.{clockWord, pathWord, epochWord}
 use Rattle.layout.specs.Encode.{encode, decode, encodeBy}
 use Rattle.layout.specs.Sound.{Sound}
 
 module _ {ws : List ℕ} (s : Sound ws) (v : ℕ) where
-  pub clock-written : set ws 6 v ≡ encode (withClock (decode ws) v)
+  pub clock-written : set ws clockWord v ≡ encode (withClock (decode ws) v)
   unfolding encodeBy
-  clock-written = ap (λ (r : List ℕ). set r 6 v) (s .whole)
+  clock-written = ap (λ (r : List ℕ). set r clockWord v) (s .whole)
 
-  pub path-written : set ws 7 v ≡ encode (withPath (decode ws) v)
+  pub path-written : set ws pathWord v ≡ encode (withPath (decode ws) v)
   unfolding encodeBy
-  path-written = ap (λ (r : List ℕ). set r 7 v) (s .whole)
+  path-written = ap (λ (r : List ℕ). set r pathWord v) (s .whole)
 
-  pub epoch-written : set ws 8 v ≡ encode (withEpoch (decode ws) v)
+  pub epoch-written : set ws epochWord v ≡ encode (withEpoch (decode ws) v)
   unfolding encodeBy
-  epoch-written = ap (λ (r : List ℕ). set r 8 v) (s .whole)
+  epoch-written = ap (λ (r : List ℕ). set r epochWord v) (s .whole)

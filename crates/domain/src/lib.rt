@@ -41,6 +41,7 @@ pub fn bounds(words: &[u32]) -> Params
         visibility: words[head_word::VISIBILITY],
         quiescence: words[head_word::QUIESCENCE],
         fallback: words[head_word::FALLBACK],
+        lateness: words[head_word::LATENESS],
     }
 }
 
@@ -87,12 +88,12 @@ pub fn set_epoch(words: &mut [u32], v: u32)
     words[head_word::EPOCH] = v;
 }
 
-// The ticks within which every store has become visible: the one age that flushes and scans go by.
+// T + E, the ticks within which every store has become visible: the one age that flushes and scans go by.
 pub fn delay(words: &[u32]) -> u32
     requires { ⌜ Sound (now words) ⌝ }
     ensures { λ r. ⌜ r ≡ delay (decode (now (words .entry)) .params) ⌝ }
 {
-    words[head_word::VISIBILITY]
+    words[head_word::VISIBILITY] + words[head_word::LATENESS]
 }
 
 // The clock below which a node must have been retired to be older than the delay.

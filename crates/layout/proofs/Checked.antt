@@ -14,7 +14,7 @@ use Rattle.lists.proofs.Facts as F
 use Rattle.lists.proofs.Upto.{all-at, all-yes, all-of}
 use Rattle.lists.proofs.Rows.{length-unrows, unrows-at, below}
 use Rattle.model.specs.Params.{Params, Between, InRange, mostProcesses, mostHazards, mostNodes, mostTicks, mostCalls}
-use Rattle.model.specs.Params.{mostRetired, lastClock}
+use Rattle.model.specs.Params.{mostRetired, mostLateness, lastClock}
 use Rattle.model.specs.State.{Process, Domain, Fallback, noProcess, processOf}
 use Rattle.model.specs.WellFormed.{NodeFits, ProcessFits, WellFormed}
 use Rattle.layout.specs.Shape.{Shape, Head, processWidth, processStart, nodesStart, wordCountBy}
@@ -52,8 +52,9 @@ head-facts h e =
     let e₃ = both (between 1 mostTicks (h .params .visibilityBound)) _ (e₂ .1) in
     let e₄ = both (between 1 mostCalls (h .params .quiescenceThreshold)) _ (e₃ .1) in
     let e₅ = both (between 1 mostRetired (h .params .fallbackThreshold)) _ (e₄ .1) in
-    let e₆ = both (leb (h .clock) lastClock) _ (e₅ .1) in
-    let e₇ = both (leb (h .path) Fallback) _ (e₆ .1) in
+    let e₆ = both (leb (h .params .lateness) mostLateness) _ (e₅ .1) in
+    let e₇ = both (leb (h .clock) lastClock) _ (e₆ .1) in
+    let e₈ = both (leb (h .path) Fallback) _ (e₇ .1) in
     record {
       params = record {
         processes = within 1 mostProcesses _ (e₀ .0);
@@ -62,10 +63,11 @@ head-facts h e =
         visibilityBound = within 1 mostTicks _ (e₃ .0);
         quiescenceThreshold = within 1 mostCalls _ (e₄ .0);
         fallbackThreshold = within 1 mostRetired _ (e₅ .0);
+        lateness = leb-true _ _ (e₆ .0);
       };
-      clock = leb-true _ _ (e₆ .0);
-      path = leb-true _ _ (e₇ .0);
-      epoch = leb-true _ _ (e₇ .1);
+      clock = leb-true _ _ (e₇ .0);
+      path = leb-true _ _ (e₈ .0);
+      epoch = leb-true _ _ (e₈ .1);
     }
 
 head-test : (h : Head) → HeadFits h → headFits h ≡ true
@@ -78,7 +80,8 @@ head-test h f =
     (pass (is-within 1 mostTicks _ (r .visibilityBound))
     (pass (is-within 1 mostCalls _ (r .quiescenceThreshold))
     (pass (is-within 1 mostRetired _ (r .fallbackThreshold))
-    (pass (le-leb _ _ (f .clock)) (pass (le-leb _ _ (f .path)) (le-leb _ _ (f .epoch)))))))))
+    (pass (le-leb _ _ (r .lateness))
+    (pass (le-leb _ _ (f .clock)) (pass (le-leb _ _ (f .path)) (le-leb _ _ (f .epoch))))))))))
 
 -- ---- a layout whose test of the nodes stands for their facts
 

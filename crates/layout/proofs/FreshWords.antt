@@ -1,4 +1,4 @@
--- The words of a fresh domain: its six parameters, 1 for each process that it is present, and 0 elsewhere. Assumes nothing.
+-- The words of a fresh domain: its seven parameters, 1 for each process that it is present, and 0 elsewhere. Assumes nothing.
 use Prim.Native.Nat.{ℕ, zero, suc, _+_, _*_}
 use mathlib.Core.List.{List, [], _∷_, _++_, append-assoc}
 use mathlib.Core.Path.{_≡_, refl, sym, _∙_, ap}
@@ -16,10 +16,10 @@ use Rattle.layout.specs.Encode.{shape, processWords, processWordsBy, enc
 use Rattle.layout.specs.Fresh.{withPresent}
 use Rattle.layout.proofs.Encode.{process-width}
 
--- N, K, M, T, Q, C
+-- N, K, M, T, Q, C, E
 abbrev pub paramWords : Params → List ℕ
 paramWords a =
-    a .processes ∷ a .hazards ∷ a .nodes ∷ a .visibilityBound ∷ a .quiescenceThreshold ∷ a .fallbackThreshold ∷ []
+    a .processes ∷ a .hazards ∷ a .nodes ∷ a .visibilityBound ∷ a .quiescenceThreshold ∷ a .fallbackThreshold ∷ a .lateness ∷ []
 
 abbrev freshProcess : ℕ → Process
 freshProcess k = record { epoch = 0; calls = 0; presence = 0; present = 1; buffer = []; hazards = replicate k emptyHazard }
@@ -60,7 +60,7 @@ module _ (k : ℕ) (hs : List ℕ) (hw : length hs ≡ headWidth) where
       ∙ sym (append-assoc ps (processWords (freshProcess k)) (replicate r 0))
       ∙ ap (λ (z : List ℕ). z ++ replicate r 0) (sym (rows-repeat processWords (freshProcess k) n))))
 
--- n zeros, then the parameters stored into the first six, and the processes present
+-- n zeros, then the parameters stored into the first seven, and the processes present
 pub fresh-words : (a : Params) (n : ℕ) → n ≡ wordCount a
     → withPresent (a .hazards) (a .processes) (sets (replicate n 0) 0 (paramWords a)) ≡ encode (fresh a)
 unfolding encodeBy fresh

@@ -3,6 +3,7 @@ use Prim.Native.Nat.{ℕ, _≤_}
 use native.Mathlib.Omega.{arith}
 use mathlib.Core.Bool.{true}
 use mathlib.Core.Path.{_≡_}
+use borrow.Author.Tests.{leb-true}
 use Rattle.lists.proofs.Bools.{both}
 use Rattle.model.specs.Params.{Params, Between, InRange, mostProcesses, mostHazards, mostNodes, mostTicks, mostCalls}
 use Rattle.model.specs.Params.{mostRetired, wordCount}
@@ -34,6 +35,7 @@ in-range a e =
     let e₀ = both (sizesInRange (a .processes) (a .hazards) (a .nodes)) _ e in
     let e₁ = both (between 1 mostTicks (a .visibilityBound)) _ (e₀ .1) in
     let e₂ = both (between 1 mostCalls (a .quiescenceThreshold)) _ (e₁ .1) in
+    let e₃ = both (between 1 mostRetired (a .fallbackThreshold)) _ (e₂ .1) in
     let sizes = sizes-in-range (a .processes) (a .hazards) (a .nodes) (e₀ .0) in
     record {
       processes = sizes .processes;
@@ -41,7 +43,8 @@ in-range a e =
       nodes = sizes .nodes;
       visibilityBound = within 1 mostTicks _ (e₁ .0);
       quiescenceThreshold = within 1 mostCalls _ (e₂ .0);
-      fallbackThreshold = within 1 mostRetired _ (e₂ .1);
+      fallbackThreshold = within 1 mostRetired _ (e₃ .0);
+      lateness = leb-true _ _ (e₃ .1);
     }
 
 pub length-in-range : (a : Params) → inRange a ≡ true → lengthFor (a .processes) (a .hazards) (a .nodes) ≡ wordCount a

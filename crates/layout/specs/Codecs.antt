@@ -13,10 +13,26 @@ use Rattle.layout.specs.Shape.{Head, Lead, word}
 
 -- ---- each record as words, in the paper's order
 
+-- the words of a head that are named elsewhere: T and E, the clock, the path, the global epoch
+abbrev pub visibilityWord : ℕ
+visibilityWord = 3
+
+abbrev pub latenessWord : ℕ
+latenessWord = 6
+
+abbrev pub clockWord : ℕ
+clockWord = 7
+
+abbrev pub pathWord : ℕ
+pathWord = 8
+
+abbrev pub epochWord : ℕ
+epochWord = 9
+
 abbrev pub headWords : Head → List ℕ
 headWords h =
     h .params .processes ∷ h .params .hazards ∷ h .params .nodes ∷ h .params .visibilityBound ∷ h .params .quiescenceThreshold
-    ∷ h .params .fallbackThreshold ∷ h .clock ∷ h .path ∷ h .epoch ∷ []
+    ∷ h .params .fallbackThreshold ∷ h .params .lateness ∷ h .clock ∷ h .path ∷ h .epoch ∷ []
 
 abbrev pub headAt : List ℕ → Head
 headAt r =
@@ -25,13 +41,14 @@ headAt r =
         processes = word r 0;
         hazards = word r 1;
         nodes = word r 2;
-        visibilityBound = word r 3;
+        visibilityBound = word r visibilityWord;
         quiescenceThreshold = word r 4;
         fallbackThreshold = word r 5;
+        lateness = word r latenessWord;
       };
-      clock = word r 6;
-      path = word r 7;
-      epoch = word r 8;
+      clock = word r clockWord;
+      path = word r pathWord;
+      epoch = word r epochWord;
     }
 
 -- the word of a lead that says how many stores are pending
@@ -95,13 +112,14 @@ head-front r = λ t. record {
     processes = first headWidth r 0 (omega arith) t;
     hazards = first headWidth r 1 (omega arith) t;
     nodes = first headWidth r 2 (omega arith) t;
-    visibilityBound = first headWidth r 3 (omega arith) t;
+    visibilityBound = first headWidth r visibilityWord (omega arith) t;
     quiescenceThreshold = first headWidth r 4 (omega arith) t;
     fallbackThreshold = first headWidth r 5 (omega arith) t;
+    lateness = first headWidth r latenessWord (omega arith) t;
   };
-  clock = first headWidth r 6 (omega arith) t;
-  path = first headWidth r 7 (omega arith) t;
-  epoch = first headWidth r 8 (omega arith) t;
+  clock = first headWidth r clockWord (omega arith) t;
+  path = first headWidth r pathWord (omega arith) t;
+  epoch = first headWidth r epochWord (omega arith) t;
 }
 
 pub lead-front : (r : List ℕ) → leadAt (take leadWidth r) ≡ leadAt r

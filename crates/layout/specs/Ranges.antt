@@ -1,8 +1,9 @@
 -- The parameters' ranges, and how many words a domain takes. Assumes nothing.
 use Prim.Native.Nat.{ℕ}
 use mathlib.Core.Bool.{Bool, _&&_, cond}
+use lib.Dec.{leb}
 use Rattle.model.specs.Params.{Params, mostProcesses, mostHazards, mostNodes, mostTicks, mostCalls, mostRetired}
-use Rattle.model.specs.Params.{wordCount}
+use Rattle.model.specs.Params.{mostLateness, wordCount}
 use Rattle.layout.specs.Words.{between}
 
 -- N, K and M, which a domain's length goes by
@@ -14,12 +15,13 @@ inRange a =
     sizesInRange (a .processes) (a .hazards) (a .nodes)
     && (between 1 mostTicks (a .visibilityBound)
     && (between 1 mostCalls (a .quiescenceThreshold)
-    && between 1 mostRetired (a .fallbackThreshold)))
+    && (between 1 mostRetired (a .fallbackThreshold)
+    && leb (a .lateness) mostLateness)))
 
 -- parameters of these sizes: a domain's length goes by no others
 abbrev pub sized : ℕ → ℕ → ℕ → Params
 sized n k m =
-    record { processes = n; hazards = k; nodes = m; visibilityBound = 1; quiescenceThreshold = 1; fallbackThreshold = 1 }
+    record { processes = n; hazards = k; nodes = m; visibilityBound = 1; quiescenceThreshold = 1; fallbackThreshold = 1; lateness = 0 }
 
 -- the words of a domain with the most of each
 abbrev pub mostWords : ℕ

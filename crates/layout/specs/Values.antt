@@ -16,6 +16,7 @@ paramsValue a =
       visibilityBound = a .visibility;
       quiescenceThreshold = a .quiescence;
       fallbackThreshold = a .fallback;
+      lateness = a .lateness;
     }
 
 abbrev pub leadValue : Lead → L.Lead

@@ -7,7 +7,7 @@ use lib.Dec.{leb, ltb, eqb}
 use Rattle.lists.specs.Tests.{implies}
 use Rattle.lists.specs.Upto.{allUpto}
 use Rattle.model.specs.Params.{Params, mostProcesses, mostHazards, mostNodes, mostTicks, mostCalls, mostRetired}
-use Rattle.model.specs.Params.{bufferSize, lastClock}
+use Rattle.model.specs.Params.{mostLateness, bufferSize, lastClock}
 use Rattle.model.specs.State.{Fallback}
 use Rattle.layout.specs.Shape.{Shape, Head, Lead, word, hazardPlace, storePlace, processStart, nodesStart}
 use Rattle.layout.specs.Shape.{wordCountBy}
@@ -16,7 +16,7 @@ use Rattle.layout.specs.Encode.{shape}
 abbrev pub between : ℕ → ℕ → ℕ → Bool
 between low high n = leb low n && leb n high
 
--- N, K, M, T, Q, C, clock, path, global epoch
+-- N, K, M, T, Q, C, E, clock, path, global epoch
 unfoldable pub headFits : Head → Bool
 headFits h =
     between 1 mostProcesses (h .params .processes)
@@ -25,9 +25,10 @@ headFits h =
     && (between 1 mostTicks (h .params .visibilityBound)
     && (between 1 mostCalls (h .params .quiescenceThreshold)
     && (between 1 mostRetired (h .params .fallbackThreshold)
+    && (leb (h .params .lateness) mostLateness
     && (leb (h .clock) lastClock
     && (leb (h .path) Fallback
-    && leb (h .epoch) 2)))))))
+    && leb (h .epoch) 2))))))))
 
 -- local epoch, calls, presence, stores, present, with the quiescence threshold q
 unfoldable pub leadFits : ℕ → Lead → Bool

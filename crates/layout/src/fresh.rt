@@ -36,7 +36,8 @@ pub fn in_range(params: Params) -> bool
 {
     sizes_in_range(params.processes, params.hazards, params.nodes)
         & (up_to(most::VISIBILITY, params.visibility)
-            & (up_to(most::QUIESCENCE, params.quiescence) & up_to(most::FALLBACK, params.fallback)))
+            & (up_to(most::QUIESCENCE, params.quiescence)
+                & (up_to(most::FALLBACK, params.fallback) & (params.lateness <= most::LATENESS))))
 }
 
 // The words of a domain of N processes, K hazards a process and M nodes.
@@ -71,6 +72,7 @@ pub fn write_fresh(words: &mut [u32], params: Params)
     words[head_word::VISIBILITY] = params.visibility;
     words[head_word::QUIESCENCE] = params.quiescence;
     words[head_word::FALLBACK] = params.fallback;
+    words[head_word::LATENESS] = params.lateness;
     set_present(words, params.hazards, params.processes);
 }
 

@@ -22,7 +22,7 @@ pub struct HazardId(pub u32);
 
 pub struct NodeId(pub u32);
 
-// N, K, M, T, Q and C.
+// N, K, M, T, Q, C and E.
 pub struct Params {
     pub processes: u32,
     pub hazards: u32,
@@ -30,6 +30,7 @@ pub struct Params {
     pub visibility: u32,
     pub quiescence: u32,
     pub fallback: u32,
+    pub lateness: u32,
 }
 
 // The words of a process before its hazards; stores: how many are pending; present: 1 where it takes part, 0 where it is absent.

@@ -2,7 +2,7 @@
 // many there may be of each thing. The one place in code that knows them; the rules have theirs in `model` Params and State, and the
 // specs in Shape.
 
-// The head, before the processes: N, K, M, T, Q and C, the clock, the path, the global epoch.
+// The head, before the processes: N, K, M, T, Q, C and E, the clock, the path, the global epoch.
 pub mod head_word {
     pub const PROCESSES: usize = 0;
 
@@ -16,13 +16,15 @@ pub mod head_word {
 
     pub const FALLBACK: usize = 5;
 
-    pub const CLOCK: usize = 6;
+    pub const LATENESS: usize = 6;
 
-    pub const PATH: usize = 7;
+    pub const CLOCK: usize = 7;
 
-    pub const EPOCH: usize = 8;
+    pub const PATH: usize = 8;
 
-    pub const WIDTH: usize = 9;
+    pub const EPOCH: usize = 9;
+
+    pub const WIDTH: usize = 10;
 }
 
 // The lead of a process, before its hazards: local epoch, calls, presence, how many stores are pending, whether it is present.
@@ -122,7 +124,7 @@ pub mod paths {
 
 // The most of each.
 pub mod most {
-    // N, K, M, T, Q and C: the ranges of document 01, each from 1 on.
+    // N, K, M, T, Q and C, each from 1 on, and E, from 0 on: the ranges of documents 01 and 02.
     pub const PROCESSES: u32 = 16;
 
     pub const HAZARDS: u32 = 8;
@@ -134,6 +136,8 @@ pub mod most {
     pub const QUIESCENCE: u32 = 1000;
 
     pub const FALLBACK: u32 = 256;
+
+    pub const LATENESS: u32 = 1000;
 
     // Epochs go round from 0 to 2; how many there are.
     pub const EPOCH: u32 = 2;

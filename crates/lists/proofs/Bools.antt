@@ -8,6 +8,11 @@ pub by-cond {ℓ} : {A : Type ℓ} (P : A → Type 0) (b : Bool) {x y : A} → (
 by-cond P true h k = h refl
 by-cond P false h k = k refl
 
+-- a function of a choice is the choice of its values
+pub through-cond : {A B : Type 0} (f : A → B) (b : Bool) (x y : A) → cond b (f x) (f y) ≡ f (cond b x y)
+through-cond f true x y = refl
+through-cond f false x y = refl
+
 pub both : (a b : Bool) → (a && b) ≡ true → (a ≡ true) × (b ≡ true)
 both true b h = (refl, h)
 both false b h = absurd (false≢true h)

@@ -1,4 +1,4 @@
--- Each of twenty-seven plausible mistakes is told from the rules by a closed schedule, by computation. Assumes nothing.
+-- Each of thirty plausible mistakes is told from the rules by a closed schedule, by computation. Assumes nothing.
 use Prim.Native.Nat.{ℕ, _+_}
 use mathlib.Core.Bool.{false, false≢true}
 use mathlib.Core.List.{List, [], _∷_}
@@ -25,6 +25,9 @@ pub told-apart : All ToldApart mistakes
 unfolding step fresh
 told-apart =
     (refl, refl, apart _ _ refl)
+    then (refl, refl, apart _ _ refl)
+    then (refl, refl, apart _ _ refl)
+    then (refl, refl, apart _ _ refl)
     then (refl, refl, apart _ _ refl)
     then (refl, refl, apart _ _ refl)
     then (refl, refl, apart _ _ refl)

@@ -47,4 +47,10 @@ edge =
     then (refl, refl)
     then (refl, refl)
     then (refl, refl)
+    then refl
+    then (refl, refl)
+    then (refl, refl)
+    then (refl, refl)
+    then (refl, refl)
+    then (refl, refl)
     then tt

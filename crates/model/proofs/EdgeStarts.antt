@@ -1,4 +1,4 @@
--- Every case of the list starts well: from a fresh domain, or from `stopped`, `stray` or `parked`, which no run reaches. Assumes nothing.
+-- Every case of the list starts well: from a fresh domain, or from `stopped`, `stray`, `parked` or `overdue`. Assumes nothing.
 use Prim.Native.Nat.{ℕ, _≤_}
 use mathlib.Core.List.{List, [], _∷_}
 use mathlib.Core.Path.{_≡_, refl, sym}
@@ -98,4 +98,10 @@ starts-well =
     then well-formed-fresh _ (omega arith)
     then well-formed-fresh _ (omega arith)
     then parked-well
+    then omega arith
+    then well-formed-fresh _ (omega arith)
+    then well-formed-fresh _ (omega arith)
+    then well-formed-fresh _ (omega arith)
+    then lone-well _ _ _ _ _ _ (omega arith) (refl, refl) (omega arith) refl (omega arith) (omega arith) (omega arith, (omega arith, (omega arith, tt)))
+    then omega arith
     then tt

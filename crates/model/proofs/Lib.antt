@@ -10,6 +10,7 @@ pub mod Freeing
 pub mod Panel
 pub mod TakenBack
 pub mod Freed
+pub mod Lateness
 pub mod Invariant
 pub mod Updates
 pub mod Buffer

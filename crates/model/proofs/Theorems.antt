@@ -1,12 +1,13 @@
 -- Each claim of specs/Claims.antt, with its proof. Assumes nothing.
 use Rattle.model.specs.Claims.{RefusedUnchanged, UnreadFields, FreshWellFormed, StepWellFormed, PanelStep}
 use Rattle.model.specs.Claims.{Panel}
-use Rattle.model.specs.Claims.{RemoveTakenBack, FreedAreCounted, Demand3}
+use Rattle.model.specs.Claims.{RemoveTakenBack, FreedAreCounted, Demand3, LatenessIsDelay, LatenessInBound, NoLateness}
 use Rattle.model.proofs.Unread as Unread
 use Rattle.model.proofs.WellFormed as WellFormed
 use Rattle.model.proofs.Panel as Counted
 use Rattle.model.proofs.TakenBack as TakenBack
 use Rattle.model.proofs.Freed as Freed
+use Rattle.model.proofs.Lateness as Lateness
 use Rattle.model.proofs.Demand3 as Follow
 
 pub refused-unchanged : RefusedUnchanged
@@ -35,3 +36,12 @@ freed-are-counted = Freed.freed-are-counted
 
 pub demand-3 : Demand3
 demand-3 = Follow.demand-3
+
+pub lateness-is-delay : LatenessIsDelay
+lateness-is-delay = Lateness.lateness-is-delay
+
+pub lateness-in-bound : LatenessInBound
+lateness-in-bound = Lateness.lateness-in-bound
+
+pub no-lateness : NoLateness
+no-lateness = Lateness.no-lateness

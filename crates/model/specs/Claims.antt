@@ -1,4 +1,4 @@
--- What is promised of the rules: demands 2 and 3, well-formedness, refusals, and fields that are not read. Statements only; the
+-- What is promised of the rules: demands 2 and 3, well-formedness, refusals, fields that are not read, and what E is. Statements only; the
 -- theorems of these types stand in proofs/Theorems.antt. Assumes nothing.
 use Prim.Native.Nat.{ℕ, _+_, _-_, _*_, _<_, _≤_, max}
 use mathlib.Core.Path.{_≡_}
@@ -9,7 +9,7 @@ use lib.ListN.{length, replicate}
 use lib.Dec.{leb, eqb}
 use Rattle.lists.specs.Tests.{every, count, countFrom}
 use Rattle.model.specs.Params.{Params, InRange, delay}
-use Rattle.model.specs.State.{Domain, Step, Free, Reachable, nodeOf, processOf, hazardOf}
+use Rattle.model.specs.State.{Domain, Step, Free, Reachable, nodeOf, processOf, hazardOf, withParams}
 use Rattle.model.specs.WellFormed.{WellFormed}
 use Rattle.model.specs.Kinds.{Meaning, means, rowOf, kindOf, Unread}
 use Rattle.model.specs.Machine.{Outcome, step, run, fresh}
@@ -192,3 +192,38 @@ Follows a q d h (s ∷ ss) =
 abbrev pub Demand3 : Type 0
 Demand3 =
     (a : Params) (ss : List Step) → Follows a (initial (a .processes) (a .hazards) (a .nodes)) (fresh a) noHistory ss
+
+-- ---- E is nothing but a longer T
+
+-- T + E for T, and 0 for E
+abbrev pub merged : Params → Params
+merged a =
+    record {
+      processes = a .processes;
+      hazards = a .hazards;
+      nodes = a .nodes;
+      visibilityBound = a .visibilityBound + a .lateness;
+      quiescenceThreshold = a .quiescenceThreshold;
+      fallbackThreshold = a .fallbackThreshold;
+      lateness = 0;
+    }
+
+-- the domain with those parameters, and all else as it is
+abbrev pub punctual : Domain → Domain
+punctual d = withParams d (merged (d .params))
+
+abbrev pub punctually : Outcome → Outcome
+punctually o = record { refusal = o .refusal; value = o .value; after = punctual (o .after) }
+
+-- after any list of steps the next one has the same answer and leaves the same domain, the two parameters aside
+abbrev pub LatenessIsDelay : Type 0
+LatenessIsDelay =
+    (d : Domain) (ss : List Step) (s : Step) → step (run (punctual d) ss) s ≡ punctually (step (run d ss) s)
+
+-- and what it may leave unfreed is bounded by the same number
+abbrev pub LatenessInBound : Type 0
+LatenessInBound = (a : Params) (h : History) (p : ℕ) → bound (merged a) h p ≡ bound a h p
+
+-- so with E = 0 the one age is T, and every answer is that of the rules without E
+abbrev pub NoLateness : Type 0
+NoLateness = (a : Params) → a .lateness ≡ 0 → delay a ≡ a .visibilityBound

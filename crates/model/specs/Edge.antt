@@ -16,7 +16,7 @@ use Rattle.model.specs.Claims.{reachableCount, raises, lowers, acceptedO
 use Rattle.model.specs.Cases.{Answer, gives, refuses, oks, answersBy, stepOf, allocate, publish, protect, check}
 use Rattle.model.specs.Cases.{use', clear, remove, retire, drain, flush, tick, manage, clearPresence, reinsert}
 use Rattle.model.specs.Cases.{leave, join}
-use Rattle.model.specs.Cases.{turnover, shownToAll, stopAndBack, params, store, hazard, process, asleep, free}
+use Rattle.model.specs.Cases.{turnover, shownToAll, stopAndBack, late, params, store, hazard, process, asleep, free}
 use Rattle.model.specs.Cases.{allocated}
 use Rattle.model.specs.Cases.{reachable, removed, retired}
 use Rattle.model.specs.Cases.{domain, stray}
@@ -67,6 +67,13 @@ parked =
     (process 1 0 0 [] (hazard 0 0 0 ∷ []) ∷ asleep 2 0 1 (store 0 0 2 ∷ []) (hazard 1 0 0 ∷ []) ∷ [])
     (retired 0 70 0 0 ∷ free ∷ [])
 
+-- T = 1000 and E = 1000: at clock 1999 a pending store and a Retired node of clock 0
+abbrev pub overdue : Domain
+overdue =
+    domain (late 1 1 3 1000 1 1 1000) 1999 1 0
+    (process 0 0 0 (store 0 0 0 ∷ []) (hazard 0 0 0 ∷ []) ∷ [])
+    (retired 0 70 0 0 ∷ free ∷ free ∷ [])
+
 -- every kind that process p is asked 20 at, but for a join
 abbrev pub stepsOf : ℕ → List Step
 stepsOf p =
@@ -75,10 +82,10 @@ stepsOf p =
 
 abbrev pub cases : List Case
 cases =
-    -- length at 1, 1, 1 is 46 (45 before request 3)
-    Length (params 1 1 1 1 1 1) 46
-    -- at 16, 8, 256 it is 2137 (2121 before)
-    ∷ Length (params 16 8 256 1 1 1) 2137
+    -- length at 1, 1, 1 is 47
+    Length (params 1 1 1 1 1 1) 47
+    -- at 16, 8, 256 it is 2138
+    ∷ Length (params 16 8 256 1 1 1) 2138
     -- T = 3, stamp 0: a scan at clock 3 keeps the card (the scan is the second retire's, C being 1)
     ∷ Run (fresh (params 1 1 2 3 1 1)) (turnover 0 0 70 ++ replicate 3 tick ++ turnover 0 1 60)
     (oks 11)
@@ -283,4 +290,30 @@ cases =
     (domain (params 2 1 2 1 1 1) 3 0 2
     (asleep 0 0 0 [] (hazard 0 0 0 ∷ []) ∷ process 2 0 0 (store 0 0 2 ∷ []) (hazard 1 0 0 ∷ []) ∷ [])
     (retired 1 70 3 2 ∷ retired 1 60 3 2 ∷ []))
+    -- request 4: E is no more than a word; T = 3, E = 2, stamp 0: a scan at clock 5 keeps the card
+    ∷ Length (late 1 1 1 1 1 1 1000) 47
+    ∷ Run (fresh (late 1 1 2 3 1 1 2)) (turnover 0 0 70 ++ replicate 5 tick ++ turnover 0 1 60)
+    (oks 13)
+    (domain (late 1 1 2 3 1 1 2) 5 1 0
+    (process 0 0 0 [] (hazard 0 0 0 ∷ []) ∷ [])
+    (retired 0 70 0 0 ∷ retired 0 60 5 0 ∷ []))
+    -- at 6 frees it
+    ∷ Run (fresh (late 1 1 2 3 1 1 2)) (turnover 0 0 70 ++ replicate 6 tick ++ turnover 0 1 60)
+    (oks 13 ++ gives 1 ∷ [])
+    (domain (late 1 1 2 3 1 1 2) 6 1 0
+    (process 0 0 0 [] (hazard 0 0 0 ∷ []) ∷ [])
+    (free ∷ retired 0 60 6 0 ∷ []))
+    -- a tick with mail of age T + E − 1 is taken, with mail of age T + E it gets 16, and the rooster helps
+    ∷ Run (fresh (late 1 1 1 3 1 1 2)) (clear 0 0 ∷ replicate 6 tick ++ flush 0 ∷ tick ∷ [])
+    (oks 6 ++ refuses 16 ∷ gives 0 ∷ gives 0 ∷ [])
+    (domain (late 1 1 1 3 1 1 2) 6 0 0 (process 0 0 0 [] (hazard 0 0 0 ∷ []) ∷ []) (free ∷ []))
+    -- E = 1000 and T = 1000: mail of age 1999 is young and of 2000 is not; a scan at age 2000 keeps the card, at 2001 it frees it
+    ∷ Run overdue (tick ∷ tick ∷ turnover 0 1 60 ++ flush 0 ∷ tick ∷ turnover 0 2 61)
+    (gives 0 ∷ refuses 16 ∷ oks 9 ++ gives 1 ∷ [])
+    (domain (late 1 1 3 1000 1 1 1000) 2001 1 0
+    (process 0 0 0 [] (hazard 0 0 0 ∷ []) ∷ [])
+    (free ∷ retired 0 60 2000 0 ∷ retired 0 61 2001 0 ∷ []))
+    -- the bound counts what was retired over T + E ticks: 1 and 4, of which T alone would count 2
+    ∷ Unfreed (late 1 1 4 1 1 1 2)
+    (turnover 0 0 70 ++ tick ∷ turnover 0 1 71 ++ tick ∷ turnover 0 2 72 ++ tick ∷ turnover 0 3 73) 0 4 5
     ∷ []

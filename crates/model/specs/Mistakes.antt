@@ -1,6 +1,6 @@
--- Twenty-seven plausible mistakes, each as a machine that is wrong in one place, with a closed schedule on which it answers otherwise than the
+-- Thirty plausible mistakes, each as a machine that is wrong in one place, with a closed schedule on which it answers otherwise than the
 -- rules, or leaves another number in the domain. Both lists are written by hand. Assumes nothing.
-use Prim.Native.Nat.{ℕ, suc, _-_}
+use Prim.Native.Nat.{ℕ, suc, _+_, _-_}
 use mathlib.Core.Bool.{Bool, true, not, _&&_, _||_, cond}
 use mathlib.Core.List.{List, [], _∷_, _++_, map}
 use mathlib.Core.Path.{_≡_}
@@ -24,7 +24,7 @@ use Rattle.model.specs.Machine.{Outcome, act, answered, step, fresh}
 use Rattle.model.specs.Claims.{reachableCount}
 use Rattle.model.specs.Cases.{Answer, gives, refuses, oks, answersBy, runBy, allocate, publish, protect, check}
 use Rattle.model.specs.Cases.{use', clear, remove, retire, flush, tick, manage, reinsert, leave, join}
-use Rattle.model.specs.Cases.{turnover, shownToAll, stopAndBack, params, stray}
+use Rattle.model.specs.Cases.{turnover, shownToAll, stopAndBack, late, params, stray}
 
 -- ---- machines that are right but for one place
 
@@ -234,6 +234,32 @@ abbrev pub joinKeepsEpoch : Domain → Step → Outcome
 joinKeepsEpoch =
     doing (λ k d s. cond (is k Join) (effect 0 (setProcess d (s .process) (withPresent (here d s) 1))) (act k d s))
 
+-- ---- three, in the time that a flush may come late
+
+-- a scan that goes by age v of the domain
+abbrev pub scansAt : (Params → ℕ) → Domain → Step → Outcome
+scansAt v =
+    retireBy overfull fallBack
+    (λ d p c n. retiredBy p n && (ltb (v (d .params)) (d .clock - n .retiredAt) && lacks (visibleTo d p) (suc c)))
+
+-- question 16 by age v of the domain
+abbrev pub youngerThan : (Params → ℕ) → Domain → Bool
+youngerThan v d = every (λ x. every (λ e. ltb (d .clock - e .time) (v (d .params))) (x .buffer)) (d .processes)
+
+-- E counts in question 16, and not in the scan
+abbrev pub scanNotLate : Domain → Step → Outcome
+scanNotLate = scansAt (λ a. a .visibilityBound)
+
+-- E counts in the scan, and not in question 16
+abbrev pub tickNotLate : Domain → Step → Outcome
+tickNotLate = asking 16 Tick (λ d s. youngerThan (λ a. a .visibilityBound) d)
+
+-- E counts twice in both
+abbrev pub lateTwice : Domain → Step → Outcome
+lateTwice d s =
+    cond (is (kindOf (s .kind)) Tick) (asking 16 Tick (λ d s. youngerThan (λ a. delay a + a .lateness) d) d s)
+    (scansAt (λ a. delay a + a .lateness) d s)
+
 -- ---- schedules
 
 pub record Mistake : Type 0 where
@@ -369,6 +395,15 @@ mistakes =
     (leave 1 0 ∷ replicate 4 (manage 0) ++ join 1 ∷ allocate 1 0 70 ∷ publish 1 0 ∷ protect 0 0 0 ∷ check 0 0 ∷ remove 1 0 ∷ retire 1 0
     ∷ replicate 3 (manage 1) ++ allocate 1 0 80 ∷ publish 1 0 ∷ use' 0 0 ∷ [])
     (oks 15 ++ kept) (oks 14 ++ gives 1 ∷ [] ++ freed)
+    -- at clock 2 the store of process 1 is not visible yet, and node 0 is 2 old
+    ∷ mistake scanNotLate (late 2 1 2 1 1 1 1) (claimed ++ tick ∷ tick ∷ [] ++ turnover 0 1 60 ++ reused)
+    (oks 12 ++ kept) (oks 11 ++ gives 1 ∷ [] ++ freed)
+    -- at clock 1 the store of process 1 is 1 old
+    ∷ mistake tickNotLate (late 2 1 2 1 1 1 1) (claimed ++ tick ∷ tick ∷ []) (oks 8) (oks 7 ++ refuses 16 ∷ [])
+    -- at clock 3 node 0 is 3 old, and at clock 5 the store is 2 old
+    ∷ mistake lateTwice (late 1 1 2 1 1 1 1)
+    (turnover 0 0 70 ++ replicate 3 tick ++ turnover 0 1 60 ++ clear 0 0 ∷ replicate 3 tick)
+    (oks 10 ++ gives 1 ∷ [] ++ oks 3 ++ refuses 16 ∷ []) (oks 15)
     ∷ []
 
 -- ---- what is claimed of a mistake

@@ -1,4 +1,4 @@
--- The six parameters of a domain, their ranges, and what follows from them alone. Assumes nothing.
+-- The seven parameters of a domain, their ranges, and what follows from them alone. Assumes nothing.
 use Prim.Native.Nat.{ℕ, _+_, _*_, _≤_}
 
 pub record Params : Type 0 where
@@ -8,14 +8,16 @@ pub record Params : Type 0 where
   pub hazards : ℕ
   -- M, cards
   pub nodes : ℕ
-  -- T, ticks: a store is visible at most so long after it was made
+  -- T, ticks: a flush is due so long after a store was made
   pub visibilityBound : ℕ
   -- Q, calls: only each Q-th manage acts
   pub quiescenceThreshold : ℕ
   -- C, cards: a process with so many Retired nodes leaves the fast path
   pub fallbackThreshold : ℕ
+  -- E, ticks: a flush (the rooster's) may come so much later than it is due
+  pub lateness : ℕ
 
--- the most of each (document 01); the least is 1
+-- the most of each (documents 01 and 02); the least is 1, of E it is 0
 abbrev pub mostProcesses : ℕ
 mostProcesses = 16
 
@@ -34,6 +36,9 @@ mostCalls = 1000
 abbrev pub mostRetired : ℕ
 mostRetired = 256
 
+abbrev pub mostLateness : ℕ
+mostLateness = 1000
+
 abbrev pub Between : ℕ → ℕ → ℕ → Type 0
 Between low high n = (low ≤ n) × (n ≤ high)
 
@@ -44,6 +49,7 @@ pub record InRange (a : Params) : Type 0 where
   pub visibilityBound : Between 1 mostTicks (a .visibilityBound)
   pub quiescenceThreshold : Between 1 mostCalls (a .quiescenceThreshold)
   pub fallbackThreshold : Between 1 mostRetired (a .fallbackThreshold)
+  pub lateness : a .lateness ≤ mostLateness
 
 -- the most pending stores that a process's buffer holds (8 mail entries)
 abbrev pub bufferSize : ℕ
@@ -53,15 +59,15 @@ bufferSize = 8
 abbrev pub lastClock : ℕ
 lastClock = 4294967295
 
--- the ticks within which every store has become visible: the one age that flushes, scans and the bound on unfreed nodes go by
+-- T + E, the ticks within which every store has become visible: the one age that flushes, scans and the bound on unfreed nodes go by
 abbrev pub delay : Params → ℕ
-delay a = a .visibilityBound
+delay a = a .visibilityBound + a .lateness
 
 -- ---- the words of a domain, by rows: the head; the lead of a process (its words before its hazards), a hazard, a pending store and the
 -- places of all stores; a node
 
 abbrev pub headWidth : ℕ
-headWidth = 9
+headWidth = 10
 
 abbrev pub leadWidth : ℕ
 leadWidth = 5

@@ -121,6 +121,10 @@ abbrev pub withEpoch : Domain → ℕ → Domain
 withEpoch d v =
     record { params = d .params; clock = d .clock; path = d .path; epoch = v; processes = d .processes; nodes = d .nodes }
 
+abbrev pub withParams : Domain → Params → Domain
+withParams d a =
+    record { params = a; clock = d .clock; path = d .path; epoch = d .epoch; processes = d .processes; nodes = d .nodes }
+
 abbrev pub withClock : Domain → ℕ → Domain
 withClock d v =
     record { params = d .params; clock = v; path = d .path; epoch = d .epoch; processes = d .processes; nodes = d .nodes }

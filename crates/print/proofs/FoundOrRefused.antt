@@ -7,6 +7,7 @@ use lib.ListN.{length}
 use Rattle.model.specs.Params.{wordCount}
 use Rattle.layout.specs.Ranges.{lengthFor, mostWords}
 use Rattle.layout.proofs.Ranges.{in-range, length-in-range, words-most}
+use Rattle.trace.specs.Widths.{leastSize, stepSize}
 use Rattle.trace.specs.Trace.{refused, given, Front, frontOf, traceOf}
 use Rattle.trace.specs.Claims.{ledFrom, traceFrom}
 use Rattle.trace.proofs.InTurn.{passed, steps-many}
@@ -26,7 +27,7 @@ module _ (bs : List ℕ) (f : Front) (opened : frontOf bs ≡ given f) where
   pub long-most : wordCount (f .params) ≤ mostWords
   long-most = words-most (f .params) (in-range (f .params) (passed bs f opened .range))
 
-  fits : f .count ≤ (length bs - 36) / 12
+  fits : f .count ≤ (length bs - leastSize) / stepSize
   fits = let (t, _, turn) = steps-in-turn bs f opened in omega (arith, turn .room)
 
   pub room : (n : ℕ) → printRoom (length bs) ≤ n → bookRoom (f .count) ≤ n

@@ -18,7 +18,7 @@ readingText (given t) = bookText t
 unfoldable pub printed : List ℕ → List ℕ
 printed bs = readingText (traceOf bs)
 
--- the most bytes that n bytes print: a step takes 12 of them, parameters and trailer 36
+-- the most bytes that n bytes print: a step takes 12 of them, parameters and trailer 40
 abbrev pub printRoom : ℕ → ℕ
 printRoom n = bookRoom ((n - leastSize) / stepSize)
 

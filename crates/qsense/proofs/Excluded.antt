@@ -22,6 +22,7 @@ use Rattle.model.specs.Claims.{turnedFree, freedCount}
 use Rattle.model.proofs.Theorems.{fresh-well-formed, step-well-formed}
 use Rattle.model.proofs.Freed.{none-turned}
 use Rattle.layout.specs.Shape.{word}
+use Rattle.layout.specs.Codecs.{clockWord}
 use Rattle.layout.specs.Encode.{encode, encodeBy, decode}
 use Rattle.layout.proofs.Sound.{decoded}
 use Rattle.qsense.specs.Calls.{Reply, throughWords, stepWords, runWords}
@@ -132,7 +133,7 @@ excluded = record {
   );
   writes-nothing =
       λ f w e. eqb-false 0 1 refl
-      (ap (λ (ws : List ℕ). word ws 6) (sym (w _ _) ∙ words-are least fits-least [] tick f e));
+      (ap (λ (ws : List ℕ). word ws clockWord) (sym (w _ _) ∙ words-are least fits-least [] tick f e));
   frees-once = (
     only-says,
     (λ f w e. eqb-false 0 1 refl (sym (w _ _ freed-once refl) ∙ turned-are sixth fits-sixth twice (manage 0) f e)),

@@ -1,7 +1,9 @@
 pub mod ModelOnWords
 pub mod Made
+pub mod AtTheEdge
 pub mod Demand3OnWords
 pub mod RefusedForStores
+pub mod LatenessOnWords
 pub mod Theorems
 pub mod Excluded
 pub mod Checked

@@ -37,13 +37,14 @@ use Rattle.trace.specs.declared.Opened.the-variants.{Found, TooLong, NoTrailer,
 use Rattle.qsense.specs.Calls.{Reply, refusing, throughWords, makeWords, stepWords, reachableWords, runWords}
 use Rattle.qsense.specs.Demands.{short, Refuses, Declines, Demand1}
 use Rattle.qsense.specs.Demands.{Demand2, RemoveTakenBackWords, FreedAreCountedWords, RefusedForStores}
-use Rattle.qsense.specs.Demands.{Demand3Words}
+use Rattle.qsense.specs.Demands.{LatenessIsDelayWords, Demand3Words}
 use Rattle.qsense.specs.Demands.{acceptedIn, outcomeOf, FollowsWords}
 use Rattle.qsense.proofs.ModelOnWords.{step-through, run-through, run-well-formed, counted, panel-through}
 use Rattle.qsense.proofs.ModelOnWords.{accepted-through}
 use Rattle.qsense.proofs.Made.{made}
 use Rattle.qsense.proofs.Demand3OnWords.{follows-words}
 use Rattle.qsense.proofs.RefusedForStores.{full, old}
+use Rattle.qsense.proofs.LatenessOnWords as Lateness
 
 -- ---- Demand 1
 
@@ -175,6 +176,11 @@ refused-for-stores ws s =
       (λ e. old (kindOf (s .kind)) (decode ws) s (sym (step-refusal (decode ws) s) ∙ e)),
     ))
     (λ _. ((λ e. absurd (eqb-false 3 13 refl e)), (λ e. absurd (eqb-false 3 16 refl e))))
+
+-- ---- E is nothing but a longer T
+
+pub lateness-is-delay : LatenessIsDelayWords
+lateness-is-delay = Lateness.lateness-is-delay-words
 
 -- ---- Demand 3
 

@@ -1,14 +1,14 @@
 -- The user's demands, of the calls on words. The run starts from what `make` leaves on any slice that it accepts; each step has five
 -- arbitrary numbers and gets the words as the last one left them. Theorems: proofs/Theorems.antt. Assumes nothing.
 use Prim.Native.Nat.{ℕ, _+_, _≤_}
-use mathlib.Core.Bool.{Bool, false}
+use mathlib.Core.Bool.{Bool, true, false}
 use mathlib.Core.List.{List, [], _∷_}
 use mathlib.Core.Path.{_≡_}
 use mathlib.Core.Logic.{_≢_}
-use lib.ListN.{length}
+use lib.ListN.{length, set}
 use lib.Dec.{leb, eqb}
 use Rattle.lists.specs.Tests.{every}
-use Rattle.model.specs.Params.{Params, bufferSize, wordCount}
+use Rattle.model.specs.Params.{Params, mostTicks, delay, bufferSize, wordCount}
 use Rattle.model.specs.State.{Step}
 use Rattle.model.specs.Kinds.{kindOf}
 use Rattle.model.specs.Hazards.{here, young}
@@ -18,7 +18,9 @@ use Rattle.model.specs.Reference.{Reference, initial, freeEach}
 use Rattle.model.specs.Claims.{raises, lowers, acceptedAs, TakenBack, turnedFree, freedCount, Matches, Bounded}
 use Rattle.model.specs.Claims.{History, noHistory, recorded}
 use Rattle.model.specs.Claims.{led}
-use Rattle.layout.specs.Encode.{decode}
+use Rattle.layout.specs.Shape.{word}
+use Rattle.layout.specs.Codecs.{visibilityWord, latenessWord}
+use Rattle.layout.specs.Encode.{decode, paramsIn}
 use Rattle.layout.specs.Words.{wellFormed}
 use Rattle.layout.specs.Ranges.{inRange}
 use Rattle.trace.specs.Widths.{mostBytes}
@@ -100,6 +102,21 @@ RefusedForStores =
     (ws : List ℕ) (s : Step)
     → (stepWords ws s .refusal ≡ 13 → bufferSize ≤ length (here (decode ws) s .buffer))
     × (stepWords ws s .refusal ≡ 16 → every (young (decode ws)) (decode ws .processes) ≡ false)
+
+-- ---- E is nothing but a longer T, on words that hold a domain
+
+-- T + E where T stands, 0 where E does, and every other word as it is
+abbrev pub punctualWords : List ℕ → List ℕ
+punctualWords ws = set (set ws visibilityWord (word ws visibilityWord + word ws latenessWord)) latenessWord 0
+
+abbrev pub punctualReply : Reply → Reply
+punctualReply r = record { refusal = r .refusal; value = r .value; words = punctualWords (r .words) }
+
+-- where T + E is in the range of T, after any list of steps the next one has the same answer and leaves the same words, those two aside
+abbrev pub LatenessIsDelayWords : Type 0
+LatenessIsDelayWords =
+    (ws : List ℕ) (ss : List Step) (s : Step) → wellFormed ws ≡ true → delay (paramsIn ws) ≤ mostTicks
+    → stepWords (runWords (punctualWords ws) ss) s ≡ punctualReply (stepWords (runWords ws ss) s)
 
 -- ---- Demand 3: the model's one claim over a list of steps, with the words for the domain
 

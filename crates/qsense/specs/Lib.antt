@@ -1,5 +1,6 @@
 pub mod Calls
 pub mod Demands
+pub mod Cases
 pub mod Impostors
 pub mod Values
 pub mod Runs

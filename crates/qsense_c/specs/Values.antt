@@ -8,8 +8,8 @@ use Rattle.qsense_c.specs.declared.Answer.{Answer}
 abbrev pub replyOf : Answer → List ℕ → Reply
 replyOf r ws = record { refusal = r .refusal; value = r .value; words = ws }
 
-abbrev pub paramsOf : ℕ → ℕ → ℕ → ℕ → ℕ → ℕ → Params
-paramsOf n k m t q c =
+abbrev pub paramsOf : ℕ → ℕ → ℕ → ℕ → ℕ → ℕ → ℕ → Params
+paramsOf n k m t q c e =
     record {
       processes = n;
       hazards = k;
@@ -17,4 +17,5 @@ paramsOf n k m t q c =
       visibilityBound = t;
       quiescenceThreshold = q;
       fallbackThreshold = c;
+      lateness = e;
     }

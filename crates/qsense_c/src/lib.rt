@@ -34,8 +34,9 @@ pub extern "C" fn qsense_make(
     t: u32,
     q: u32,
     c: u32,
+    e: u32,
 ) -> Answer
-    ensures { λ r. ⌜ replyOf r (now (words .exit)) ≡ makeWords (now (words .entry)) (paramsOf n k m t q c) ⌝ }
+    ensures { λ r. ⌜ replyOf r (now (words .exit)) ≡ makeWords (now (words .entry)) (paramsOf n k m t q c e) ⌝ }
 {
     let made = qsense::make(
         words,
@@ -46,6 +47,7 @@ pub extern "C" fn qsense_make(
             visibility: t,
             quiescence: q,
             fallback: c,
+            lateness: e,
         },
     );
     Answer {

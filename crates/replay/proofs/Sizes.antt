@@ -10,6 +10,7 @@ use Rattle.model.specs.Questions.{Question, firstNo, questions, refusalOf}
 use Rattle.model.specs.Kinds.{Kind, kindOf}
 use Rattle.model.specs.Machine.{Outcome, step, act, accepted, refused}
 use Rattle.text.specs.Text.{paramsTextSize, stepTextSize, endTextSize}
+use Rattle.replay.specs.Most.{mostParamsLine, mostStepLine, mostEndLine}
 use Rattle.text.proofs.Sizes.{one-most, two-most, three-most, four-most, ten-most}
 use lib.Dec.{eqb}
 
@@ -35,7 +36,7 @@ refusal-low d s =
 
 -- ---- the lines
 
-pub params-size : (a : Params) → InRange a → paramsTextSize a ≤ 28
+pub params-size : (a : Params) → InRange a → paramsTextSize a ≤ mostParamsLine
 params-size a r =
     omega (
       arith,
@@ -45,9 +46,10 @@ params-size a r =
       four-most (a .visibilityBound) (omega (arith, r .visibilityBound)),
       four-most (a .quiescenceThreshold) (omega (arith, r .quiescenceThreshold)),
       three-most (a .fallbackThreshold) (omega (arith, r .fallbackThreshold)),
+      four-most (a .lateness) (omega (arith, r .lateness)),
     )
 
-pub step-size : (i kind r v n : ℕ) → i < 5458 → kind < 256 → r < 100 → n ≤ 256 → stepTextSize i kind r v n ≤ 27
+pub step-size : (i kind r v n : ℕ) → i < 5458 → kind < 256 → r < 100 → n ≤ 256 → stepTextSize i kind r v n ≤ mostStepLine
 step-size i kind r v n p q s t =
     omega (
       arith,
@@ -58,6 +60,6 @@ step-size i kind r v n p q s t =
       three-most n (omega arith),
     )
 
-pub end-size : (clock path n : ℕ) → path ≤ 1 → n ≤ 256 → endTextSize clock path n ≤ 21
+pub end-size : (clock path n : ℕ) → path ≤ 1 → n ≤ 256 → endTextSize clock path n ≤ mostEndLine
 end-size clock path n p q =
     omega (arith, ten-most clock, one-most path (omega arith), three-most n (omega arith))

@@ -20,7 +20,7 @@ use Rattle.trace.proofs.InTurn.{passed, steps-many}
 use Rattle.trace.proofs.Theorems.{steps-in-turn}
 use Rattle.text.specs.Text.{Put, paramsText, paramsTextSize, endText, endTextSize}
 use Rattle.text.proofs.Digits.{put-take}
-use Rattle.replay.specs.Most.{bookRoom}
+use Rattle.replay.specs.Most.{mostParamsLine, bookRoom}
 use Rattle.replay.specs.Lines.{stepLines, lastLine, bookText}
 use Rattle.replay.specs.Turn.{Ran, Replayed}
 use Rattle.replay.proofs.Sizes.{params-size, end-size}
@@ -40,7 +40,7 @@ module _ (bs : List ℕ) (f : Front) (opened : frontOf bs ≡ given f) where
   well : WellFormed (fresh (f .params))
   well = fresh-well-formed (f .params) ranged
 
-  pub first-line : paramsTextSize (f .params) ≤ 28
+  pub first-line : paramsTextSize (f .params) ≤ mostParamsLine
   first-line = params-size (f .params) ranged
 
   module _ (ws₁ : List ℕ) (made : ws₁ ≡ encode (fresh (f .params))) where

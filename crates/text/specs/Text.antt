@@ -45,7 +45,7 @@ endWord = 101 ∷ 110 ∷ 100 ∷ space ∷ []
 abbrev pub refusedWord : List ℕ
 refusedWord = 114 ∷ 101 ∷ 102 ∷ 117 ∷ 115 ∷ 101 ∷ 100 ∷ space ∷ []
 
--- `desk N K M T Q C`
+-- `desk N K M T Q C E`
 abbrev pub paramsText : Params → List ℕ
 paramsText a =
     deskWord
@@ -54,7 +54,8 @@ paramsText a =
     ++ numberText (a .nodes) space
     ++ numberText (a .visibilityBound) space
     ++ numberText (a .quiescenceThreshold) space
-    ++ numberText (a .fallbackThreshold) newline
+    ++ numberText (a .fallbackThreshold) space
+    ++ numberText (a .lateness) newline
 
 abbrev pub paramsTextSize : Params → ℕ
 paramsTextSize a =
@@ -65,6 +66,7 @@ paramsTextSize a =
     + numberSize (a .visibilityBound)
     + numberSize (a .quiescenceThreshold)
     + numberSize (a .fallbackThreshold)
+    + numberSize (a .lateness)
 
 -- `i kind refusal value panel`
 abbrev pub stepText : ℕ → ℕ → ℕ → ℕ → ℕ → List ℕ

@@ -110,7 +110,7 @@ fn put_refused_word(out: &mut [u8]) -> usize
     8
 }
 
-// The first line, at the start: the six parameters.
+// The first line, at the start: the seven parameters.
 pub fn put_params(out: &mut [u8], params: Params) -> usize
     requires { ⌜ paramsTextSize (paramsValue params) ≤ length (now out) ⌝ }
     ensures { λ r. ⌜ Put (now (out .entry)) 0 (paramsText (paramsValue params)) (paramsTextSize (paramsValue params)) (now (out .exit)) r ⌝ }
@@ -121,7 +121,8 @@ pub fn put_params(out: &mut [u8], params: Params) -> usize
     at = put_number(out, at, params.nodes, b' ');
     at = put_number(out, at, params.visibility, b' ');
     at = put_number(out, at, params.quiescence, b' ');
-    put_number(out, at, params.fallback, b'\n')
+    at = put_number(out, at, params.fallback, b' ');
+    put_number(out, at, params.lateness, b'\n')
 }
 
 // The line of a step: its number, its kind, its refusal and value, and the reachable count after it.

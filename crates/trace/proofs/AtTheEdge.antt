@@ -33,6 +33,12 @@ read-so =
     then refl
     then refl
     then refl
+    then refl
+    then refl
+    then refl
+    then refl
+    then refl
+    then refl
     then tt
 
 paper-right : trailerRight paperBytes ≡ true

@@ -8,6 +8,7 @@ use lib.ListN.{length, getD}
 use lib.Dec.{leb}
 use borrow.Author.Tests.{le-leb, leb-true}
 use Rattle.layout.specs.Ranges.{inRange}
+use Rattle.trace.specs.Widths.{paramsSize}
 use Rattle.trace.specs.Bytes.{noStep, stepAt, stepsFrom}
 use Rattle.trace.specs.Trace.{given, ask, Front, frontAt, frontOf, Trace, traceAt, traceOf, trailerRight}
 use Rattle.trace.specs.Trace.{countOf, distanceOf, paramsOf, questioned}
@@ -91,7 +92,7 @@ steps-in-turn bs f e = (
     fits : Fits bs
     fits = trailer-fits bs (passed bs f e .right)
 
-    first : length bs - distanceOf bs + 24 ≡ f .first
+    first : length bs - distanceOf bs + paramsSize ≡ f .first
     first = ap (λ (x : Front). x .first) (passed bs f e .front)
 
     count : countOf bs ≡ f .count

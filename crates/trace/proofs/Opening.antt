@@ -9,6 +9,7 @@ use lib.Dec.{leb, eqb}
 use borrow.Author.Tests.{le-leb, lt-leb, leb-true, leb-false, eqb-true, eq-eqb}
 use Rattle.lists.proofs.Bools.{both}
 use Rattle.layout.specs.Ranges.{inRange}
+use Rattle.trace.specs.Widths.{stepSize, leastSize}
 use Rattle.trace.specs.Bytes.{markAt, stepIn, noStep, stepAt}
 use Rattle.trace.specs.Trace.{refused, given, trailerAt, countOf, distanceOf, trailerRight, paramsOf}
 use Rattle.trace.specs.Trace.{questioned}
@@ -39,7 +40,7 @@ no-room bs h = rw (lt-leb 12 (length bs) h)
 
 -- the tests after the first are the code's: m its mark, d its distance, k what the distance is to be
 pub trailer-tests : (bs : List ℕ) (m : Bool) (d k : ℕ) → 12 ≤ length bs → m ≡ markAt bs (trailerAt bs + 8) → d ≡ distanceOf bs
-    → k ≡ 36 + 12 * countOf bs → (m && (eqb d k && leb d (length bs))) ≡ trailerRight bs
+    → k ≡ leastSize + stepSize * countOf bs → (m && (eqb d k && leb d (length bs))) ≡ trailerRight bs
 unfolding trailerRight
 trailer-tests bs m d k h p q r = rw (p, q, r, le-leb 12 (length bs) h)
 
@@ -47,7 +48,7 @@ trailer-tests bs m d k h p q r = rw (p, q, r, le-leb 12 (length bs) h)
 pub record Fits (bs : List ℕ) : Type 0 where
   pub room : 12 ≤ length bs
   pub mark : markAt bs (trailerAt bs + 8) ≡ true
-  pub distance : distanceOf bs ≡ 36 + 12 * countOf bs
+  pub distance : distanceOf bs ≡ leastSize + stepSize * countOf bs
   pub inside : distanceOf bs ≤ length bs
 
 pub trailer-fits : (bs : List ℕ) → trailerRight bs ≡ true → Fits bs
@@ -55,7 +56,7 @@ unfolding trailerRight
 trailer-fits bs h =
     let l : Bool = leb 12 (length bs) in
     let m : Bool = markAt bs (trailerAt bs + 8) in
-    let d : Bool = eqb (distanceOf bs) (36 + 12 * countOf bs) in
+    let d : Bool = eqb (distanceOf bs) (leastSize + stepSize * countOf bs) in
     let i : Bool = leb (distanceOf bs) (length bs) in
     let a = both l (m && (d && i)) h in
     let b = both m (d && i) (a .1) in
@@ -63,7 +64,7 @@ trailer-fits bs h =
     record {
       room = leb-true 12 (length bs) (a .0);
       mark = b .0;
-      distance = eqb-true (distanceOf bs) (36 + 12 * countOf bs) (c .0);
+      distance = eqb-true (distanceOf bs) (leastSize + stepSize * countOf bs) (c .0);
       inside = leb-true (distanceOf bs) (length bs) (c .1);
     }
 
@@ -71,9 +72,9 @@ trailer-fits bs h =
 pub right-trailer : (bs : List ℕ) → Fits bs → trailerRight bs ≡ true
 right-trailer bs f =
     sym
-    (trailer-tests bs true (distanceOf bs) (36 + 12 * countOf bs) (f .room) (sym (f .mark)) refl refl)
+    (trailer-tests bs true (distanceOf bs) (leastSize + stepSize * countOf bs) (f .room) (sym (f .mark)) refl refl)
     ∙ rw
-    (eq-eqb (distanceOf bs) (36 + 12 * countOf bs) (f .distance), le-leb (distanceOf bs) (length bs) (f .inside))
+    (eq-eqb (distanceOf bs) (leastSize + stepSize * countOf bs) (f .distance), le-leb (distanceOf bs) (length bs) (f .inside))
 
 -- ---- the three questions
 

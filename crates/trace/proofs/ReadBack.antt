@@ -11,13 +11,14 @@ use Rattle.model.specs.Params.{Params}
 use Rattle.model.specs.State.{Step}
 use Rattle.layout.specs.Ranges.{inRange}
 use Rattle.layout.proofs.Ranges.{in-range}
+use Rattle.trace.specs.Widths.{paramsSize, stepSize, leastSize}
 use Rattle.trace.specs.Bytes.{wordAt, markAt, paramsAt, stepIn, stepAt, stepsFrom}
 use Rattle.trace.specs.Trace.{given, Trace, traceAt, traceOf, trailerAt, countOf, distanceOf, trailerRight}
 use Rattle.trace.specs.Trace.{startOf}
 use Rattle.trace.specs.Trace.{paramsOf, firstOf, stepsOf}
 use Rattle.trace.specs.Written.{wordBytes, paramsBytes, stepBytes, stepsBytes, trailerBytes, traceBytes}
 use Rattle.trace.specs.Written.{StepFits}
-use Rattle.trace.specs.Claims.{WrittenRead}
+use Rattle.trace.specs.Claims.{WrittenRead, GreatestRead}
 use Rattle.trace.proofs.Opening.{step-inside, right-trailer, opens}
 use Rattle.trace.proofs.Shifted.{word-shifted, mark-shifted, steps-shifted}
 
@@ -36,6 +37,7 @@ pub record Small (a : Params) : Type 0 where
   pub visibilityBound : a .visibilityBound < 4294967296
   pub quiescenceThreshold : a .quiescenceThreshold < 4294967296
   pub fallbackThreshold : a .fallbackThreshold < 4294967296
+  pub lateness : a .lateness < 4294967296
 
 params-back : (a : Params) (rest : List ℕ) → Small a → paramsAt (paramsBytes a ++ rest) 0 ≡ a
 unfolding paramsAt paramsBytes wordAt wordBytes
@@ -48,6 +50,7 @@ params-back a rest h =
       visibilityBound = four (a .visibilityBound) (h .visibilityBound) t;
       quiescenceThreshold = four (a .quiescenceThreshold) (h .quiescenceThreshold) t;
       fallbackThreshold = four (a .fallbackThreshold) (h .fallbackThreshold) t;
+      lateness = four (a .lateness) (h .lateness) t;
     }
 
 -- ---- steps
@@ -92,15 +95,15 @@ count-back : (n : ℕ) → n < 4294967296 → wordAt (trailerBytes n) 0 ≡ n
 unfolding wordAt trailerBytes wordBytes
 count-back n h = four n h
 
-distance-back : (n : ℕ) → 36 + 12 * n < 4294967296 → wordAt (trailerBytes n) 4 ≡ 36 + 12 * n
+distance-back : (n : ℕ) → leastSize + stepSize * n < 4294967296 → wordAt (trailerBytes n) 4 ≡ leastSize + stepSize * n
 unfolding wordAt trailerBytes wordBytes
-distance-back n h = four (36 + 12 * n) h
+distance-back n h = four (leastSize + stepSize * n) h
 
 trailer-long : (n : ℕ) → length (trailerBytes n) ≡ 12
 unfolding trailerBytes wordBytes
 trailer-long n = refl
 
-params-long : (a : Params) → length (paramsBytes a) ≡ 24
+params-long : (a : Params) → length (paramsBytes a) ≡ paramsSize
 unfolding paramsBytes wordBytes
 params-long a = refl
 
@@ -115,6 +118,7 @@ small a h =
       visibilityBound = omega (arith, r .visibilityBound);
       quiescenceThreshold = omega (arith, r .quiescenceThreshold);
       fallbackThreshold = omega (arith, r .fallbackThreshold);
+      lateness = omega (arith, r .lateness);
     }
 
 -- ---- all of it
@@ -127,7 +131,7 @@ module _ (t : Trace) where
   unfolding traceBytes front
   two = sym (append-assoc (paramsBytes (t .params)) (stepsBytes (t .steps)) (trailerBytes (length (t .steps))))
 
-  front-long : length front ≡ 24 + 12 * length (t .steps)
+  front-long : length front ≡ paramsSize + stepSize * length (t .steps)
   unfolding front
   front-long =
       omega (
@@ -137,7 +141,7 @@ module _ (t : Trace) where
         steps-long (t .steps),
       )
 
-  all-long : length (traceBytes t) ≡ 36 + 12 * length (t .steps)
+  all-long : length (traceBytes t) ≡ leastSize + stepSize * length (t .steps)
   all-long =
       ap length two
       ∙ omega (
@@ -147,14 +151,14 @@ module _ (t : Trace) where
         trailer-long (length (t .steps)),
       )
 
-  module _ (short : 36 + 12 * length (t .steps) ≤ 65536) where
+  module _ (short : leastSize + stepSize * length (t .steps) ≤ 65536) where
     count-read : countOf (traceBytes t) ≡ length (t .steps)
     count-read =
         ap (λ (bs : List ℕ). wordAt bs (trailerAt (traceBytes t))) two
         ∙ word-shifted front (trailerBytes (length (t .steps))) 0 (trailerAt (traceBytes t)) (omega (arith, all-long, front-long))
         ∙ count-back (length (t .steps)) (omega arith)
 
-    distance-read : distanceOf (traceBytes t) ≡ 36 + 12 * length (t .steps)
+    distance-read : distanceOf (traceBytes t) ≡ leastSize + stepSize * length (t .steps)
     distance-read =
         ap (λ (bs : List ℕ). wordAt bs (trailerAt (traceBytes t) + 4)) two
         ∙ word-shifted front (trailerBytes (length (t .steps))) 4 (trailerAt (traceBytes t) + 4) (omega (arith, all-long, front-long))
@@ -209,3 +213,6 @@ written-read t ranges each short =
     (right-read t short)
     (ap inRange (params-read t short ranges) ∙ ranges)
     ∙ ap given (λ i. record { params = params-read t short ranges i; steps = steps-read t short each i })
+
+pub greatest-read : GreatestRead
+greatest-read t ranges each many = (written-read t ranges each (omega (arith, many)), omega (arith, all-long t, many))

@@ -49,6 +49,7 @@ module _ (pre bs : List ℕ) where
       let d = word-shifted (i + 12) (j + 12) (omega arith) in
       let f = word-shifted (i + 16) (j + 16) (omega arith) in
       let g = word-shifted (i + 20) (j + 20) (omega arith) in
+      let h = word-shifted (i + 24) (j + 24) (omega arith) in
       λ t.
       record {
         processes = a t;
@@ -57,6 +58,7 @@ module _ (pre bs : List ℕ) where
         visibilityBound = d t;
         quiescenceThreshold = f t;
         fallbackThreshold = g t;
+        lateness = h t;
       }
 
   step-in-shifted : (i j : ℕ) → j ≡ length pre + i → stepIn (pre ++ bs) j ≡ stepIn bs i

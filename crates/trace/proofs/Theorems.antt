@@ -1,18 +1,21 @@
 -- Each claim of specs/Claims.antt with its proof. Assumes nothing.
 use Prim.Native.Nat.{ℕ, _+_, _*_, _<_}
-use mathlib.Core.Bool.{cond}
+use mathlib.Core.Bool.{Bool, true, false, cond}
 use mathlib.Core.List.{List}
-use mathlib.Core.Path.{_≡_}
+use mathlib.Core.Path.{_≡_, refl}
 use mathlib.Core.Logic.{_≢_}
 use native.Mathlib.Omega.{arith}
 use lib.ListN.{set, length-set}
 use lib.Dec.{leb}
 use lib.Seq.{getD-set-other}
+use Rattle.trace.specs.Trace.{refused, traceAt, traceOf, trailerRight}
 use Rattle.trace.specs.Bytes.{byteAt, wordAt, stepIn, noStep, stepAt}
-use Rattle.trace.specs.Claims.{FrontLeads, StepsInTurn, EarlierUnread, FourthUnread, WrittenRead}
+use Rattle.trace.specs.Claims.{FrontLeads, StepsInTurn, EarlierUnread, FourthUnread, BeforeLateness, WrittenRead}
+use Rattle.trace.specs.Claims.{GreatestRead}
 use Rattle.trace.proofs.InTurn as T
 use Rattle.trace.proofs.Shifted as S
 use Rattle.trace.proofs.ReadBack as R
+use Rattle.trace.proofs.Opening.{trailer-fits, no-trailer}
 
 pub front-leads : FrontLeads
 front-leads = T.front-leads
@@ -25,6 +28,17 @@ earlier-unread = S.earlier-unread
 
 pub written-read : WrittenRead
 written-read = R.written-read
+
+pub greatest-read : GreatestRead
+greatest-read = R.greatest-read
+
+pub before-lateness : BeforeLateness
+unfolding traceOf
+before-lateness bs short shorter = no-trailer bs (traceAt bs) short (wrong (trailerRight bs) refl)
+  where
+    wrong : (b : Bool) → trailerRight bs ≡ b → trailerRight bs ≡ false
+    wrong true e = absurd (omega (arith, trailer-fits bs e .distance))
+    wrong false e = e
 
 -- every place but the fourth keeps its byte
 kept : (bs : List ℕ) (i v j : ℕ) → j ≢ i + 3 → byteAt (set bs (i + 3) v) j ≡ byteAt bs j

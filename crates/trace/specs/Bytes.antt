@@ -7,7 +7,7 @@ use lib.ListN.{length, getD}
 use lib.Dec.{leb, eqb}
 use Rattle.model.specs.Params.{Params}
 use Rattle.model.specs.State.{Step}
-use Rattle.trace.specs.Widths.{hazardsByte, nodesByte, visibilityByte, quiescenceByte, fallbackByte}
+use Rattle.trace.specs.Widths.{hazardsByte, nodesByte, visibilityByte, quiescenceByte, fallbackByte, latenessByte}
 use Rattle.trace.specs.Widths.{processByte, hazardByte, nodeByte, guestByte, stepSize}
 
 abbrev pub byteAt : List ℕ → ℕ → ℕ
@@ -25,7 +25,7 @@ markAt bs i =
     && (eqb (byteAt bs (i + 2)) 65
     && eqb (byteAt bs (i + 3)) 75))
 
--- six parameters of 4 bytes from i on: N, K, M, T, Q, C
+-- seven parameters of 4 bytes from i on: N, K, M, T, Q, C, E
 unfoldable pub paramsAt : List ℕ → ℕ → Params
 paramsAt bs i =
     record {
@@ -35,6 +35,7 @@ paramsAt bs i =
       visibilityBound = wordAt bs (i + visibilityByte);
       quiescenceThreshold = wordAt bs (i + quiescenceByte);
       fallbackThreshold = wordAt bs (i + fallbackByte);
+      lateness = wordAt bs (i + latenessByte);
     }
 
 -- the step in the 12 bytes from i on: kind, process (worker) and hazard (slot) a byte each, a byte that is not read, node (card) and guest

@@ -7,9 +7,9 @@ use mathlib.Core.Path.{_≡_}
 use lib.ListN.{length, getD, set}
 use Rattle.lists.specs.Tests.{All}
 use Rattle.layout.specs.Ranges.{inRange}
-use Rattle.trace.specs.Widths.{mostBytes, mostSteps, unreadByte, stepSize, trailerSize, leastSize}
+use Rattle.trace.specs.Widths.{mostBytes, mostSteps, wordSize, unreadByte, stepSize, trailerSize, leastSize}
 use Rattle.trace.specs.Bytes.{noStep, stepIn, stepAt, stepsFrom}
-use Rattle.trace.specs.Trace.{Reading, refused, given, Front, frontOf, Trace, traceOf, trailerRight}
+use Rattle.trace.specs.Trace.{Reading, refused, given, Front, frontOf, Trace, traceOf, trailerRight, countOf, distanceOf}
 use Rattle.trace.specs.Written.{StepFits, traceBytes}
 
 -- the trace that a front leads to
@@ -52,8 +52,19 @@ EarlierUnread =
 abbrev pub FourthUnread : Type 0
 FourthUnread = (bs : List ℕ) (i v : ℕ) → stepAt (set bs (i + unreadByte) v) i ≡ stepAt bs i
 
+-- a book of before E had a word less, and so a distance shorter by that: it gets 19
+abbrev pub BeforeLateness : Type 0
+BeforeLateness =
+    (bs : List ℕ) → length bs ≤ mostBytes → distanceOf bs + wordSize ≡ leastSize + stepSize * countOf bs → traceOf bs ≡ refused 19
+
 -- a trace that fits is read back as it was written
 abbrev pub WrittenRead : Type 0
 WrittenRead =
     (t : Trace) → inRange (t .params) ≡ true → All StepFits (t .steps) → leastSize + stepSize * length (t .steps) ≤ mostBytes
     → traceOf (traceBytes t) ≡ given t
+
+-- one of the most steps does, and fills the most bytes
+abbrev pub GreatestRead : Type 0
+GreatestRead =
+    (t : Trace) → inRange (t .params) ≡ true → All StepFits (t .steps) → length (t .steps) ≡ mostSteps
+    → (traceOf (traceBytes t) ≡ given t) × (length (traceBytes t) ≡ mostBytes)

@@ -34,7 +34,7 @@ countOf bs = wordAt bs (trailerAt bs)
 abbrev pub distanceOf : List ℕ → ℕ
 distanceOf bs = wordAt bs (trailerAt bs + distanceByte)
 
--- it fits, the mark matches, the distance is 36 + 12 × count and not beyond the start
+-- it fits, the mark matches, the distance is 40 + 12 × count and not beyond the start
 unfoldable pub trailerRight : List ℕ → Bool
 trailerRight bs =
     leb trailerSize (length bs)
@@ -42,7 +42,7 @@ trailerRight bs =
     && (eqb (distanceOf bs) (leastSize + stepSize * countOf bs)
     && leb (distanceOf bs) (length bs)))
 
--- ---- the parameters, and the steps after their 24 bytes
+-- ---- the parameters, and the steps after their 28 bytes
 
 abbrev pub startOf : List ℕ → ℕ
 startOf bs = length bs - distanceOf bs

@@ -1,5 +1,5 @@
 -- Where things stand in a trace (the paper's step book), in bytes, and the most bytes that one may have. Assumes nothing.
-use Prim.Native.Nat.{ℕ}
+use Prim.Native.Nat.{ℕ, _+_}
 
 -- the most bytes of a trace
 abbrev pub mostBytes : ℕ
@@ -13,7 +13,7 @@ byteRange = 256
 abbrev pub wordSize : ℕ
 wordSize = 4
 
--- ---- the six parameters, a word each, from the first on
+-- ---- the seven parameters, a word each, from the first on
 
 abbrev pub hazardsByte : ℕ
 hazardsByte = 4
@@ -30,8 +30,11 @@ quiescenceByte = 16
 abbrev pub fallbackByte : ℕ
 fallbackByte = 20
 
+abbrev pub latenessByte : ℕ
+latenessByte = 24
+
 abbrev pub paramsSize : ℕ
-paramsSize = 24
+paramsSize = 28
 
 -- ---- a step: its kind is the first byte, and the fourth is not read
 
@@ -66,8 +69,8 @@ trailerSize = 12
 
 -- a trace with no step: parameters and trailer
 abbrev pub leastSize : ℕ
-leastSize = 36
+leastSize = paramsSize + trailerSize
 
--- the most steps: (65,536 - 36) / 12
+-- the most steps: (65,536 - 40) / 12
 abbrev pub mostSteps : ℕ
 mostSteps = 5458

@@ -18,7 +18,8 @@ paramsBytes a =
     ++ (wordBytes (a .nodes)
     ++ (wordBytes (a .visibilityBound)
     ++ (wordBytes (a .quiescenceThreshold)
-    ++ wordBytes (a .fallbackThreshold)))))
+    ++ (wordBytes (a .fallbackThreshold)
+    ++ wordBytes (a .lateness))))))
 
 unfoldable pub stepBytes : Step → List ℕ
 stepBytes s = s .kind ∷ s .process ∷ s .hazard ∷ 0 ∷ (wordBytes (s .node) ++ wordBytes (s .guest))

@@ -80,7 +80,7 @@ pub fn holds(bytes: &[u8], at: usize, size: usize) -> bool
     at <= bytes.len() - size
 }
 
-// The six parameters from at on.
+// The seven parameters from at on.
 fn params_at(bytes: &[u8], at: usize) -> Params
     requires { ⌜ at + paramsSize ≤ length (now bytes) ⌝ }
     ensures { λ r. ⌜ paramsValue r ≡ paramsAt (now (bytes .entry)) at ⌝ }
@@ -92,10 +92,11 @@ fn params_at(bytes: &[u8], at: usize) -> Params
         visibility: word_at(bytes, at + params_byte::VISIBILITY),
         quiescence: word_at(bytes, at + params_byte::QUIESCENCE),
         fallback: word_at(bytes, at + params_byte::FALLBACK),
+        lateness: word_at(bytes, at + params_byte::LATENESS),
     }
 }
 
-// Does the trailer fit, with its mark and a distance that is 36 + 12 × count and not beyond the start?
+// Does the trailer fit, with its mark and a distance that is 40 + 12 × count and not beyond the start?
 fn trailer_right(bytes: &[u8]) -> bool
     ensures { λ r. ⌜ r ≡ trailerRight (now (bytes .entry)) ⌝ }
 {

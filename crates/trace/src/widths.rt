@@ -1,7 +1,7 @@
 // Where things stand in a trace, in bytes, and the most bytes that one may have. The one place in code that knows them; the definitions
 // have theirs in specs/Widths.antt.
 
-// The six parameters, a word each: N, K, M, T, Q and C.
+// The seven parameters, a word each: N, K, M, T, Q, C and E.
 pub mod params_byte {
     pub const PROCESSES: usize = 0;
 
@@ -15,7 +15,9 @@ pub mod params_byte {
 
     pub const FALLBACK: usize = 20;
 
-    pub const WIDTH: usize = 24;
+    pub const LATENESS: usize = 24;
+
+    pub const WIDTH: usize = 28;
 }
 
 // A step: kind, process and hazard a byte each, a byte that is not read, node and guest a word each.

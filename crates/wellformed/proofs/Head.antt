@@ -10,7 +10,7 @@ use lib.ListN.{length, take, drop, length-take, length-drop}
 use lib.Dec.{leb}
 use lib.Seq.{take-all}
 use Rattle.model.specs.Params.{Params, mostProcesses, mostHazards, mostNodes, mostTicks, mostCalls, mostRetired}
-use Rattle.model.specs.Params.{lastClock}
+use Rattle.model.specs.Params.{mostLateness, lastClock}
 use Rattle.model.specs.State.{Fallback}
 use Rattle.layout.specs.Shape.{Head, nodesStart, wordCountBy}
 use Rattle.layout.specs.Encode.{shape, nodesPart}
@@ -42,6 +42,9 @@ module _ (h : Head) where
   abbrev pub In₆ : Bool → Type 0
   In₆ b = between 1 mostRetired (h .params .fallbackThreshold) ≡ b
 
+  abbrev pub In₇ : Bool → Type 0
+  In₇ b = leb (h .params .lateness) mostLateness ≡ b
+
   pub no₁ : In₁ false → false ≡ headFits h
   unfolding headFits
   no₁ e = simp (e, and-false)
@@ -66,10 +69,14 @@ module _ (h : Head) where
   unfolding headFits
   no₆ e = simp (e, and-false)
 
-  pub all-in : In₁ true → In₂ true → In₃ true → In₄ true → In₅ true → In₆ true
+  pub no₇ : In₇ false → false ≡ headFits h
+  unfolding headFits
+  no₇ e = simp (e, and-false)
+
+  pub all-in : In₁ true → In₂ true → In₃ true → In₄ true → In₅ true → In₆ true → In₇ true
       → (leb (h .clock) lastClock && (leb (h .path) Fallback && leb (h .epoch) 2)) ≡ headFits h
   unfolding headFits
-  all-in e₁ e₂ e₃ e₄ e₅ e₆ = rw (e₁, e₂, e₃, e₄, e₅, e₆)
+  all-in e₁ e₂ e₃ e₄ e₅ e₆ e₇ = rw (e₁, e₂, e₃, e₄, e₅, e₆, e₇)
 
 module _ (ws : List ℕ) where
   abbrev h₀ : Head

@@ -35,6 +35,9 @@ fn head_fits(words: &[u32]) -> bool
     if !up_to(most::FALLBACK, words[head_word::FALLBACK]) {
         return false;
     }
+    if most::LATENESS < words[head_word::LATENESS] {
+        return false;
+    }
     (words[head_word::CLOCK] <= most::CLOCK)
         & ((words[head_word::PATH] <= paths::FALLBACK) & (words[head_word::EPOCH] <= most::EPOCH))
 }

@@ -1,11 +1,13 @@
 //! What a run of tests has met: without these counts, agreement would say little.
 
+mod late;
 mod leaving;
 
 use crate::layout::BUFFER;
 use crate::model::domain::{Domain, Node, Path};
 use crate::model::questions::{LAST_QUESTION, QUESTIONS};
 use crate::step::{Answer, Field, Kind, Step};
+use late::Late;
 use leaving::Leaving;
 
 #[derive(Default)]
@@ -26,6 +28,7 @@ pub struct Coverage {
     clock_at_end: u64,
     unread_fields: u64,
     leaving: Leaving,
+    late: Late,
     // of the domain before the step in hand
     path: Option<Path>,
     pending: usize,
@@ -46,6 +49,7 @@ impl Coverage {
     /// Notes what is about to be changed by a step.
     pub fn before(&mut self, domain: &Domain, step: Step) {
         self.leaving.before(domain, step);
+        self.late.before(domain, step);
         self.path = Some(domain.path);
         let process = domain.processes.get(step.process as usize);
         self.pending = process.map_or(0, |process| process.buffer.len());
@@ -65,6 +69,7 @@ impl Coverage {
         self.accepted[step.kind as usize] += 1;
         self.unread_fields += has_unread(kind, step) as u64;
         self.leaving.after(domain, kind, step);
+        self.late.after(domain, kind, step);
         self.to_fallback += (self.path == Some(Path::Fast) && domain.path == Path::Fallback) as u64;
         self.to_fast += (self.path == Some(Path::Fallback) && domain.path == Path::Fast) as u64;
         match kind {
@@ -112,8 +117,8 @@ impl Coverage {
             ("steps at the last clock", self.clock_at_end),
             ("accepted with unread fields", self.unread_fields),
         ];
-        let others = others.into_iter().chain(self.leaving.counts()).map(|(name, count)| (name.to_string(), count));
-        kinds.chain(numbers).chain(others).collect()
+        let others = others.into_iter().chain(self.leaving.counts()).chain(self.late.counts());
+        kinds.chain(numbers).chain(others.map(|(name, count)| (name.to_string(), count))).collect()
     }
 
     pub fn accepted_percent(&self) -> u64 {
@@ -138,7 +143,7 @@ fn claims_on(domain: &Domain, node: u32) -> Vec<(u32, u32)> {
 /// Whether a node is the owner's and old enough for a scan.
 fn is_old(domain: &Domain, scanner: u32, id: u32) -> bool {
     matches!(*domain.node(id), Node::Retired { owner, retired_at, .. }
-        if owner == scanner && domain.clock - retired_at > domain.params.visibility_bound)
+        if owner == scanner && domain.clock - retired_at > domain.params.delay())
 }
 
 /// Whether a node that is old enough is still there, because a hazard with it is visible.

@@ -1,6 +1,6 @@
 //! What an accepted step does, and its value.
 
-use super::domain::{Domain, Hazard, Node, Path, Process, Store};
+use super::domain::{Hazard, Node, Path, Process, Store};
 use super::mistake::Mistake;
 use super::Model;
 use crate::step::{Kind, Step};
@@ -109,9 +109,9 @@ impl Model {
 
     fn scan(&mut self, scanner: u32) -> u32 {
         let rules = self.rules;
-        let Domain { clock, ref params, .. } = self.domain;
+        let clock = self.domain.clock;
         let seen = self.seen_by(scanner);
-        let old = params.visibility_bound + 1 - rules.have(Mistake::FreesAtAgeT) as u32;
+        let old = self.delay(Mistake::ScanWithoutLateness) + 1 - rules.have(Mistake::FreesAtAgeT) as u32;
         let current = self.domain.process(scanner).epoch;
         self.free_where(|id, owner, retired_at, limbo| {
             (owner == scanner || rules.have(Mistake::ScansNodesOfAll))

@@ -62,6 +62,10 @@ mistakes! {
     LeaveWithRemoved
     LeaveToAbsent
     LeaveToSelf
+    // in the lateness of flushes
+    ScanWithoutLateness
+    TickWithoutLateness
+    LatenessTwice
     // in the order of the questions
     AsksOwnerBeforeState
     AsksAgeBeforeClock
@@ -116,11 +120,17 @@ impl Mistake {
         Mistake::JoinKeepsEpoch,
         Mistake::LeaveWithAssigned,
         Mistake::LeaveToAbsent,
+        Mistake::ScanWithoutLateness,
     ];
 
     /// Those by which a process comes to hold more unfreed nodes than the bound allows.
-    pub const UNBOUNDED: &'static [Mistake] =
-        &[Mistake::ScansCurrentLimboOnly, Mistake::SwitchesOverC, Mistake::SwitchesWithoutScan, Mistake::OwnVisibleToo];
+    pub const UNBOUNDED: &'static [Mistake] = &[
+        Mistake::ScansCurrentLimboOnly,
+        Mistake::SwitchesOverC,
+        Mistake::SwitchesWithoutScan,
+        Mistake::OwnVisibleToo,
+        Mistake::LatenessTwice,
+    ];
 
     /// Those in a step that the reference has too: it asks a question with the answer no, or holds the node otherwise afterwards.
     pub const UNFOLLOWED: &'static [Mistake] = &[
@@ -150,6 +160,8 @@ impl Mistake {
         Mistake::LeaveWithRemoved,
         // the nodes stay on the list of an epoch to which their owner has come
         Mistake::LeaveToSelf,
+        // stores are visible earlier than they need be
+        Mistake::TickWithoutLateness,
     ];
 }
 

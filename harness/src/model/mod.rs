@@ -35,6 +35,17 @@ impl Model {
             }
         }
     }
+
+    /// T + E; a mistake counts E twice, and `without` leaves it out.
+    fn delay(&self, without: Mistake) -> u32 {
+        let times = match self.rules {
+            rules if rules.have(without) => 0,
+            rules if rules.have(Mistake::LatenessTwice) => 2,
+            _ => 1,
+        };
+        let params = self.domain.params;
+        Params { lateness: times * params.lateness, ..params }.delay()
+    }
 }
 
 /// Takes a step on words, as the library does.

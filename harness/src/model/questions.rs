@@ -118,9 +118,9 @@ impl Model {
         }
     }
 
-    /// Every pending store of every process is younger than T ticks.
+    /// Every pending store of every process is younger than T + E ticks.
     fn all_young(&self) -> bool {
-        let limit = self.domain.params.visibility_bound + self.rules.have(Mistake::TickOneLate) as u32;
+        let limit = self.delay(Mistake::TickWithoutLateness) + self.rules.have(Mistake::TickOneLate) as u32;
         let mut stores = self.domain.processes.iter().flat_map(|process| &process.buffer);
         stores.all(|store| self.domain.clock.saturating_sub(store.time) < limit)
     }

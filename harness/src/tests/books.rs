@@ -29,6 +29,8 @@ pub fn all(report: &mut Report, desk: &Path, folder: &Path, seed: u64) {
     test("a wrong distance or count", &wrong_numbers);
     test("a count near 2^32", &great_counts);
     test("parameters out of range", &wrong_params);
+    test("the greatest E is printed last", &lateness);
+    test("books from before E", &before_lateness);
     test("65,536 and 65,537 bytes", &longest);
     test("in small chunks", &chunks);
     test("unreadable input", &unreadable);
@@ -177,8 +179,8 @@ fn with_trailer(book: &[u8], count: u32, distance: u32) -> Vec<u8> {
 fn wrong_numbers(desk: &Path, seed: u64) -> Outcome {
     let book = write(Params::LEAST, &schedule(&mut Random::new(seed, 2), Params::LEAST, 10), 0);
     let (none, right) = (distance(0) as u32, distance(10) as u32);
-    let near = [right - STEP as u32, right - 1, right + 1, right + STEP as u32];
-    let distances = [0, 12, 24, none - 1, none + 1, 1 << 31, u32::MAX].into_iter().chain(near);
+    let near = [right - STEP as u32, right - 4, right - 1, right + 1, right + STEP as u32];
+    let distances = [0, 12, 24, 28, none - 1, none + 1, 1 << 31, u32::MAX].into_iter().chain(near);
     let wrong = distances.map(|distance| with_trailer(&book, 10, distance));
     let counts = [0, 1, 9, 11, 1 << 31, u32::MAX].map(|count| with_trailer(&book, count, right));
     let beyond = [11, 5000].map(|count| with_trailer(&book, count, distance(count as usize) as u32));
@@ -211,12 +213,44 @@ fn wrong_params(desk: &Path, seed: u64) -> Outcome {
     each(desk, books, Some(1))
 }
 
+fn lateness(desk: &Path, _: u64) -> Outcome {
+    let first = same(desk, &write(Params::of(&[2, 1, 2, 3, 1, 1, 1000]), &[], 0))?;
+    match first == "desk 2 1 2 3 1 1 1000" {
+        true => Ok(first),
+        false => Err(first),
+    }
+}
+
+/// A book as it was written before E: six parameters, and the distance of then.
+fn old_book(first: [u32; 6], seed: u64, count: usize) -> Vec<u8> {
+    let (params, old) = (Params::of(&[2, 1, 2, 3, 1, 1]), first.map(u32::to_le_bytes).concat());
+    let book = write(params, &schedule(&mut Random::new(seed, 8), params, count), 0);
+    [&old, &book[PARAMS..book.len() - TRAILER], &trailer(count as u32, 36 + 12 * count as u32)].concat()
+}
+
+/// They get 19, with whatever in front, also where a parameter is out of range; 18 comes first. So do bytes of now with that distance.
+fn before_lateness(desk: &Path, seed: u64) -> Outcome {
+    let good = |count| old_book([2, 1, 2, 3, 1, 1], seed, count);
+    let padded = |padding, count| [vec![0; padding], good(count)].concat();
+    let now = write(Params::LEAST, &schedule(&mut Random::new(seed, 9), Params::LEAST, 5), 0);
+    let books = [good(0), good(13), good(5_458), padded(4, 13), padded(12, 13), padded(4, 5_458)];
+    each(desk, books, Some(19))?;
+    each(desk, [old_book([0, 1, 2, 3, 1, 1], seed, 13), with_trailer(&now, 5, 96)], Some(19))?;
+    each(desk, [padded(5, 5_458)], Some(18))?;
+    Ok("refused with 19, and past 65,536 bytes with 18".into())
+}
+
 fn longest(desk: &Path, seed: u64) -> Outcome {
     let params = Params::of(&[4, 2, 32, 3, 2, 4]);
-    let book = write(params, &schedule(&mut Random::new(seed, 5), params, MOST_STEPS), 0);
-    let padded = |length: usize| [vec![7; length - book.len()], book.clone()].concat();
-    each(desk, [book.clone(), padded(GREATEST)], None)?;
-    each(desk, [padded(GREATEST + 1), padded(GREATEST + 2), vec![0; GREATEST + 1], vec![0; 300_000]], Some(18))?;
+    let book = |count| write(params, &schedule(&mut Random::new(seed, 5), params, count), 0);
+    let padded = |count, length: usize| [vec![7; length - distance(count)], book(count)].concat();
+    let greatest = book(MOST_STEPS);
+    if (MOST_STEPS, greatest.len()) != (5_458, 65_536) {
+        return Err(format!("the greatest book has {MOST_STEPS} steps and {} bytes", greatest.len()));
+    }
+    each(desk, [greatest, padded(MOST_STEPS - 1, 65_536), padded(0, 65_536)], None)?;
+    let longer = [padded(MOST_STEPS, 65_537), padded(MOST_STEPS - 1, 65_537), padded(MOST_STEPS, 65_538)];
+    each(desk, longer.into_iter().chain([vec![0; GREATEST + 1], vec![0; 300_000]]), Some(18))?;
     Ok(format!("{MOST_STEPS} steps; {GREATEST} bytes taken, longer ones refused with 18"))
 }
 

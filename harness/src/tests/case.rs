@@ -93,6 +93,11 @@ pub fn turnover(process: u32, node: u32, guest: u32) -> Vec<Step> {
     kinds.map(|kind| Step::new(kind, process, 0, node, guest)).to_vec()
 }
 
+/// Node 0 retired at clock 0, then ticks, then a retire of node 1, which scans, where C = 1.
+pub fn scan_after(ticks: usize) -> Vec<Step> {
+    [turnover(0, 0, 70), vec![of(Kind::Tick); ticks], turnover(0, 1, 60)].concat()
+}
+
 /// A case from a fresh domain.
 pub fn case(
     name: &'static str,

@@ -1,8 +1,8 @@
 //! The cases of 'On the edge' and those of requests 1 and 2.
 
 use super::case::{
-    by, case, fresh, of, tried, turnover, whole, Case, ASSIGNED, CALLS, EPOCH, FIRST_STORE, NODES, NODES_OF_TWO,
-    PENDING, PRESENCE, PROCESS, VALIDATED,
+    by, case, fresh, of, scan_after, tried, turnover, whole, Case, ASSIGNED, CALLS, EPOCH, FIRST_STORE, NODES,
+    NODES_OF_TWO, PENDING, PRESENCE, PROCESS, VALIDATED,
 };
 use crate::layout::{CLOCK, HAZARD, HEAD, LEAD, NODE, PATH, STORE};
 use crate::library::Calls;
@@ -13,16 +13,11 @@ use crate::step::{Kind, Step};
 pub fn all(report: &mut Report, calls: &Calls) {
     report.test("edge: length at 1, 1, 1 and at 16, 8, 256", || {
         match (calls.length(1, 1, 1), calls.length(16, 8, 256)) {
-            (46, 2137) => Ok("46 and 2137".into()),
+            (47, 2138) => Ok("47 and 2138".into()),
             other => Err(format!("{other:?}")),
         }
     });
     tried(report, calls, cases());
-}
-
-/// Node 0 retired at clock 0, then ticks, then a second retire, which scans, since C = 1.
-fn scan_after(ticks: usize) -> Vec<Step> {
-    [turnover(0, 0, 70), vec![of(Kind::Tick); ticks], turnover(0, 1, 60)].concat()
 }
 
 fn cases() -> Vec<Case> {

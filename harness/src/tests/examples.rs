@@ -5,7 +5,7 @@ use crate::library::Calls;
 use crate::report::Report;
 use std::path::Path;
 
-pub const NAMES: [&str; 7] = ["first", "fallback", "kept", "epoch", "mail", "repost", "night"];
+pub const NAMES: [&str; 8] = ["first", "fallback", "kept", "epoch", "mail", "repost", "night", "late"];
 
 pub fn all(report: &mut Report, calls: &Calls, folder: &Path) {
     for name in NAMES {

@@ -44,9 +44,9 @@ fn join(process: u32) -> Step {
 /// Parameters, clock, path and global epoch; then each process: its lead, a hazard and eight stores; then the nodes.
 fn made(calls: &Calls) -> Result<String, String> {
     let process = [[0, 0, 0, 0, 1].to_vec(), vec![0; 27]].concat();
-    let expected = [vec![2, 1, 1, 3, 2, 1, 0, 0, 0], process.clone(), process, vec![0; 5]].concat();
+    let expected = [vec![2, 1, 1, 3, 2, 1, 4, 0, 0, 0], process.clone(), process, vec![0; 5]].concat();
     let mut words = vec![7; expected.len()];
-    calls.make(&mut words, Params::of(&[2, 1, 1, 3, 2, 1]));
+    calls.make(&mut words, Params::of(&[2, 1, 1, 3, 2, 1, 4]));
     match words == expected {
         true => Ok(format!("{} words", words.len())),
         false => Err(format!("{words:?}, expected {expected:?}")),

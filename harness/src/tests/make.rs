@@ -39,7 +39,7 @@ pub fn make(calls: &Calls, seed: u64) -> Result<String, String> {
         let right =
             if params.in_range() { word_count(params) } else { word_count(Params::LEAST) + random.below(400) as usize };
         let length = match random.below(4) {
-            0 => *random.of(&[0, 1, 6, 8, 9, right - 1, right + 1, right + 5]),
+            0 => *random.of(&[0, 1, 7, 9, 10, right - 1, right + 1, right + 5]),
             _ => right,
         };
         let answer = one(calls, params, &vec![random.word(); length])

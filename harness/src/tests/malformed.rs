@@ -111,7 +111,7 @@ pub fn lengths(calls: &Calls, rules: Rules, seed: u64, coverage: &mut Coverage) 
         let count = words.len();
         words.extend([0; 5]);
         let shorter =
-            [0, 1, 5, 6, 7, 8, 9, 10, word_count(Params::LEAST) - 1, count / 2, count - 5, count - 2, count - 1];
+            [0, 1, 6, 7, 8, 9, 10, 11, word_count(Params::LEAST) - 1, count / 2, count - 5, count - 2, count - 1];
         let longer = [count + 1, count + 2, count + 5];
         for length in shorter.into_iter().chain(longer) {
             if length == count {

@@ -4,6 +4,7 @@ pub mod books;
 mod case;
 pub mod edges;
 pub mod examples;
+pub mod late;
 pub mod leaving;
 pub mod make;
 pub mod malformed;

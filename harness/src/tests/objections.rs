@@ -1,7 +1,8 @@
 //! Schedules by hand, each for a mistake that random ones seldom show: the reference objects to a machine that makes it, and follows one
 //! that does not.
 
-use super::case::{by, of};
+use super::case::{by, of, turnover};
+use crate::compare::counted;
 use crate::model::mistake::{Mistake, Rules};
 use crate::model::{words, Model};
 use crate::params::Params;
@@ -17,6 +18,7 @@ pub fn by_hand(mistake: Mistake) -> Option<(Params, Vec<Step>)> {
         Mistake::JoinKeepsEpoch => Some((two, joined_behind())),
         Mistake::LeaveKeepsLimbo => Some((three, handed_to_one_behind())),
         Mistake::LeaveToAbsent => Some((three, handed_to_absent())),
+        Mistake::ScanWithoutLateness => Some((Params::of(&[2, 1, 2, 1, 1, 1, 1]), flushed_late())),
         _ => None,
     }
 }
@@ -63,17 +65,28 @@ fn handed_to_absent() -> Vec<Step> {
     [vec![by(0, Leave, 1)], steps(&epoch_two), steps(&claimed), steps(&handed)].concat()
 }
 
-/// What the reference says of a machine by these rules on a schedule, with the number of the step.
+/// Process 1 claims, and its store is still pending after T + E = 2 ticks; process 0 scans then, when node 0 is 2 ticks old.
+fn flushed_late() -> Vec<Step> {
+    let claimed = [(0, Allocate), (0, Publish), (1, Protect), (1, Check), (0, Remove), (0, Retire)];
+    [steps(&claimed), vec![of(Tick); 2], turnover(0, 1, 60)].concat()
+}
+
+/// What the reference says of a machine by these rules on a schedule, with the number of the step, or that the panel's number is wrong.
 fn objection(rules: Rules, params: Params, schedule: &[Step]) -> Option<(usize, String)> {
-    let (mut model, mut reference) = (Model::fresh(params, rules), Reference::new(params));
+    let (mut model, mut reference, mut panel) = (Model::fresh(params, rules), Reference::new(params), 0);
     schedule.iter().enumerate().find_map(|(number, &step)| {
         let answer = model.step(step);
+        panel = counted(panel, step, answer);
+        if model.domain.reachable() != panel {
+            return Some((number, format!("the panel shows {}, not {panel}", model.domain.reachable())));
+        }
         let followed = reference.follow(step, answer, &words::words_of(&model.domain));
         followed.err().map(|objection| (number, objection))
     })
 }
 
-/// Whether the reference objects to the mistake at the last step, because node 0 is freed under a claim, and follows the rules to the end.
+/// Whether the reference objects to the mistake at the last step, because node 0 is freed under a claim, and follows the rules to the end;
+/// the panel's number is right with both.
 pub fn tried(mistake: Mistake, params: Params, schedule: &[Step]) -> Result<String, String> {
     if let Some((number, objection)) = objection(Rules::default(), params, schedule) {
         return Err(format!("without the mistake, at step {number}, {objection}"));

@@ -22,6 +22,9 @@ shared-slice-read-t11 c = search needs
 shared-slice-read-t13 : tie.Need-shared-slice-read-t13
 shared-slice-read-t13 c = search needs
 
+shared-slice-read-t15 : tie.Need-shared-slice-read-t15
+shared-slice-read-t15 c = search needs
+
 returns : tie.Need-returns
 unfolding decodeBy
 returns c = search needs
@@ -36,4 +39,5 @@ bounds-spec =
     shared-slice-read-t9
     shared-slice-read-t11
     shared-slice-read-t13
+    shared-slice-read-t15
     returns)

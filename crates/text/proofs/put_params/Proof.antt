@@ -25,12 +25,16 @@ put-number-requires-5 c κs = search needs
 put-number-requires-6 : tie.Need-put-number-requires-6
 put-number-requires-6 c κs = search needs
 
+put-number-requires-7 : tie.Need-put-number-requires-7
+put-number-requires-7 c κs = search needs
+
 same-length : tie.Need-same-length
 same-length c = search needs
 
 returns : tie.Need-returns
 returns c =
-    let seventh = c .before .before in
+    let eighth = c .before .before in
+    let seventh = eighth .before .before .before .before in
     let sixth = seventh .before .before .before .before in
     let fifth = sixth .before .before .before .before in
     let fourth = fifth .before .before .before .before in
@@ -42,7 +46,8 @@ returns c =
     let upto-fourth = put-then _ _ _ _ _ _ _ _ _ _ upto-third (fourth .put-number3 .ensures) in
     let upto-fifth = put-then _ _ _ _ _ _ _ _ _ _ upto-fourth (fifth .put-number4 .ensures) in
     let upto-sixth = put-then _ _ _ _ _ _ _ _ _ _ upto-fifth (sixth .put-number5 .ensures) in
-    put-then _ _ _ _ _ _ _ _ _ _ upto-sixth (seventh .put-number6 .ensures)
+    let upto-seventh = put-then _ _ _ _ _ _ _ _ _ _ upto-sixth (seventh .put-number6 .ensures) in
+    put-then _ _ _ _ _ _ _ _ _ _ upto-seventh (eighth .put-number7 .ensures)
 
 pub put-params-spec : {M : Type 1} → statement M
 put-params-spec =
@@ -55,5 +60,6 @@ put-params-spec =
     put-number-requires-4
     put-number-requires-5
     put-number-requires-6
+    put-number-requires-7
     same-length
     returns)

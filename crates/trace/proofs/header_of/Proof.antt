@@ -2,6 +2,7 @@
 use Prim.Native.Nat.{_+_, _-_}
 use mathlib.Core.Path.{ap, _∙_}
 use lib.ListN.{length}
+use Rattle.trace.specs.Widths.{paramsSize}
 use Rattle.trace.specs.Bytes.{paramsAt}
 use borrow.Author.Needs.{needs}
 use Rattle.trace.proofs.header_of.Statement.{statement}
@@ -36,7 +37,7 @@ returns c =
     let bs = c .before .before .before .before .before .args .bytes .now in
     let d = c .before .wide .ensures .0 ∙ c .before .before .word-at2 .ensures in
     let p = c .params-at .ensures ∙ ap (λ n. paramsAt bs (length bs - n)) d in
-    λ t. record { params = p t; count = c .before .before .before .word-at .ensures t; first = length bs - d t + 24 }
+    λ t. record { params = p t; count = c .before .before .before .word-at .ensures t; first = length bs - d t + paramsSize }
 
 pub header-of-spec : {M : Type 1} → statement M
 header-of-spec =

@@ -1,4 +1,4 @@
--- `trace::params_at` meets its contract: six words that are there. Assumes nothing.
+-- `trace::params_at` meets its contract: seven words that are there. Assumes nothing.
 use Rattle.trace.specs.Bytes.{paramsAt}
 use borrow.Author.Needs.{needs}
 use Rattle.trace.proofs.params_at.Statement.{statement}
@@ -37,17 +37,24 @@ add-word-at-5 c = search needs
 word-at-requires-6 : tie.Need-word-at-requires-6
 word-at-requires-6 c κs = search needs
 
+add-word-at-6 : tie.Need-add-word-at-6
+add-word-at-6 c = search needs
+
+word-at-requires-7 : tie.Need-word-at-requires-7
+word-at-requires-7 c κs = search needs
+
 returns : tie.Need-returns
 unfolding paramsAt
 returns c =
     λ t.
     record {
-      processes = c .before .before .before .before .before .word-at .ensures t;
-      hazards = c .before .before .before .before .word-at2 .ensures t;
-      nodes = c .before .before .before .word-at3 .ensures t;
-      visibilityBound = c .before .before .word-at4 .ensures t;
-      quiescenceThreshold = c .before .word-at5 .ensures t;
-      fallbackThreshold = c .word-at6 .ensures t;
+      processes = c .before .before .before .before .before .before .word-at .ensures t;
+      hazards = c .before .before .before .before .before .word-at2 .ensures t;
+      nodes = c .before .before .before .before .word-at3 .ensures t;
+      visibilityBound = c .before .before .before .word-at4 .ensures t;
+      quiescenceThreshold = c .before .before .word-at5 .ensures t;
+      fallbackThreshold = c .before .word-at6 .ensures t;
+      lateness = c .word-at7 .ensures t;
     }
 
 pub params-at-spec : {M : Type 1} → statement M
@@ -65,4 +72,6 @@ params-at-spec =
     word-at-requires-5
     add-word-at-5
     word-at-requires-6
+    add-word-at-6
+    word-at-requires-7
     returns)

@@ -1,7 +1,7 @@
--- `wellformed::head_fits` meets its contract: six ways out with no, then the last three tests. Assumes nothing.
-use Rattle.wellformed.proofs.Head.{In₁, In₂, In₃, In₄, In₅, In₆, no₁, no₂, no₃, no₄, no₅, no₆, all-in}
+-- `wellformed::head_fits` meets its contract: seven ways out with no, then the last three tests. Assumes nothing.
+use Rattle.wellformed.proofs.Head.{In₁, In₂, In₃, In₄, In₅, In₆, In₇, no₁, no₂, no₃, no₄, no₅, no₆, no₇, all-in}
 use Rattle.layout.specs.Encode.{shape}
-use borrow.Author.Tests.{not-true, not-false}
+use borrow.Author.Tests.{not-true, not-false, le-leb, lt-leb}
 use mathlib.Core.Path.{sym, _∙_}
 use mathlib.Core.Bool.{true}
 use borrow.Author.Needs.{needs}
@@ -34,6 +34,11 @@ yes₆ : (c : tie.Else6)
     → let halfway = c .before .before .before .before .before .before .before .before .before in
     In₆ (shape .head .get (halfway .before .before .before .before .before .before .before .before .before .before .args .words .now)) true
 yes₆ c = sym (c .before .up-to6 .ensures) ∙ not-false _ (c .if6 .left)
+
+yes₇ : (c : tie.Else7)
+    → let halfway = c .before .before .before .before .before .before .before .before .before .before .before in
+    In₇ (shape .head .get (halfway .before .before .before .before .before .before .before .before .before .before .args .words .now)) true
+yes₇ c = le-leb _ _ (c .if7 .left)
 
 shared-slice-read-up-to : tie.Need-shared-slice-read-up-to
 shared-slice-read-up-to c = search needs
@@ -89,6 +94,12 @@ up-to-requires-6 c κs = search needs
 returns-6 : tie.Need-returns-6
 returns-6 c = no₆ _ (sym (c .before .up-to6 .ensures) ∙ not-true _ (c .if6 .taken))
 
+shared-slice-read-if7 : tie.Need-shared-slice-read-if7
+shared-slice-read-if7 c = search needs
+
+returns-7 : tie.Need-returns-7
+returns-7 c = no₇ _ (lt-leb _ _ (c .if7 .taken))
+
 shared-slice-read-result : tie.Need-shared-slice-read-result
 shared-slice-read-result c = search needs
 
@@ -98,15 +109,16 @@ shared-slice-read-result-2 c = search needs
 shared-slice-read-result-3 : tie.Need-shared-slice-read-result-3
 shared-slice-read-result-3 c = search needs
 
-returns-7 : tie.Need-returns-7
-returns-7 c =
-    let past₆ = c .before .before .before in
+returns-8 : tie.Need-returns-8
+returns-8 c =
+    let past₇ = c .before .before .before in
+    let past₆ = past₇ .before .before in
     let past₅ = past₆ .before .before .before in
     let past₄ = past₅ .before .before .before in
     let past₃ = past₄ .before .before .before in
     let past₂ = past₃ .before .before .before in
     let past₁ = past₂ .before .before .before in
-    all-in _ (yes₁ past₁) (yes₂ past₂) (yes₃ past₃) (yes₄ past₄) (yes₅ past₅) (yes₆ past₆)
+    all-in _ (yes₁ past₁) (yes₂ past₂) (yes₃ past₃) (yes₄ past₄) (yes₅ past₅) (yes₆ past₆) (yes₇ past₇)
 
 pub head-fits-spec : {M : Type 1} → statement M
 head-fits-spec =
@@ -130,7 +142,9 @@ head-fits-spec =
     shared-slice-read-up-to-6
     up-to-requires-6
     returns-6
+    shared-slice-read-if7
+    returns-7
     shared-slice-read-result
     shared-slice-read-result-2
     shared-slice-read-result-3
-    returns-7)
+    returns-8)

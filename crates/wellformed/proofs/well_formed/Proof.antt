@@ -7,6 +7,7 @@ use Rattle.layout.proofs.Checked.{head-facts}
 use Rattle.layout.specs.Words.{headFits}
 use Rattle.layout.specs.Encode.{shape, paramsIn}
 use Rattle.layout.specs.Shape.{wordCountBy}
+use Rattle.layout.specs.Codecs.{clockWord}
 use borrow.Author.Tests.{not-true, not-false}
 use lib.ListN.{length}
 use mathlib.Core.Path.{_≡_, sym, ap, _∙_}
@@ -122,7 +123,7 @@ returns-4 c =
     let ws = start .args .words .now in
     let r = head-facts _ (head past-head) .params in
     let nodes' = c .nodes-fit .ensures _ _ (r .processes .0) (omega (arith, r .processes .1))
-    (omega (arith, at-shared-slice-known .shared-slice-known .given 6)) (at-node-limits .node-limits .ensures) in
+    (omega (arith, at-shared-slice-known .shared-slice-known .given clockWord)) (at-node-limits .node-limits .ensures) in
     all-fits ws (none (at-processes-faults .processes-faults .result)) _ (head past-head) (long past-length) (at-processes-faults .processes-faults .ensures)
     (nodes' ∙ ap (λ (b : Bool). none (at-processes-faults .processes-faults .result) && b) (nodes-are ws (at-process-start .process-start .ensures .0)))
 

@@ -18,7 +18,7 @@ use harness::params::Params;
 use std::path::PathBuf;
 use table::Table;
 
-/// The least shape, the worked book's, a middling one, the greatest: each with T, Q and C at which paths switch and nodes are freed.
+/// The least shape, the worked book's, a middling one, the greatest: each with T, Q and C at which paths switch and nodes are freed, and E = 0.
 const SHAPES: [[u32; 6]; 4] = [[1, 1, 1, 3, 2, 1], [2, 1, 2, 3, 2, 1], [4, 2, 32, 5, 2, 8], [16, 8, 256, 5, 2, 24]];
 
 fn main() {

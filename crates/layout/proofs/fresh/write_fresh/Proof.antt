@@ -1,4 +1,4 @@
--- `fresh::write_fresh` meets its contract: all words 0, then the parameters in the first six, then the processes present. Assumes nothing.
+-- `fresh::write_fresh` meets its contract: all words 0, then the parameters in the first seven, then the processes present. Assumes nothing.
 use Prim.Native.Nat.{ℕ}
 use mathlib.Core.List.{List}
 use mathlib.Core.Path.{_∙_, ap}
@@ -44,7 +44,11 @@ slice-write-words-5 c = simp length-set (omega arith)
 slice-write-words-6 : tie.Need-slice-write-words-6
 slice-write-words-6 c = simp length-set (omega arith)
 
--- src/fresh.rt:74:5
+-- src/fresh.rt:75:5
+slice-write-words-7 : tie.Need-slice-write-words-7
+slice-write-words-7 c = simp length-set (omega arith)
+
+-- src/fresh.rt:75:5
 set-present-requires : tie.Need-set-present-requires
 set-present-requires c κs =
     let start = c .before .before .before .before .before .before in
@@ -74,6 +78,7 @@ write-fresh-spec =
     slice-write-words-4
     slice-write-words-5
     slice-write-words-6
+    slice-write-words-7
     set-present-requires
     same-length
     returns)
