@@ -6,4 +6,3 @@ pub mod Words
 pub mod Sound
 pub mod Values
 pub mod Ranges
-pub mod Fresh

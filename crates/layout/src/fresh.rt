@@ -7,11 +7,9 @@ ghost use mathlib.Core.Bool.{true};
 ghost use mathlib.Core.Path.{_≡_};
 ghost use Prim.Native.Nat.{_≤_};
 ghost use lib.ListN.{length};
-ghost use Rattle.model.specs.Params.{InRange, mostProcesses, mostHazards, wordCount};
+ghost use Rattle.model.specs.Params.{InRange, wordCount};
 ghost use Rattle.model.specs.Machine.{fresh};
-ghost use Rattle.layout.specs.Shape.{processStart};
-ghost use Rattle.layout.specs.Encode.{shape, encode};
-ghost use Rattle.layout.specs.Fresh.{withPresent};
+ghost use Rattle.layout.specs.Encode.{encode};
 ghost use Rattle.layout.specs.Values.{paramsValue};
 ghost use Rattle.layout.specs.Words.{between};
 ghost use Rattle.layout.specs.Ranges.{sizesInRange, inRange, sized, lengthFor};
@@ -48,18 +46,6 @@ fn word_count(n: u32, k: u32, m: u32) -> u32
     (crate::process_start(k, n) + crate::nodes_width(m)) as u32
 }
 
-// The first n processes are present from now on, with k hazards a process.
-fn set_present(words: &mut [u32], k: u32, n: u32)
-    requires { ⌜ (k ≤ mostHazards) × (n ≤ mostProcesses) × (processStart shape k n ≤ length (now words)) ⌝ }
-    ensures { λ _. ⌜ now (words .exit) ≡ withPresent k n (now (words .entry)) ⌝ }
-{
-    let mut p: u32 = 0;
-    while p < n {
-        words[crate::process_start(k, p) + lead_word::PRESENT] = 1;
-        p += 1;
-    }
-}
-
 // Writes the words of a fresh domain: the parameters, 1 for each process that it is present, and 0 elsewhere.
 pub fn write_fresh(words: &mut [u32], params: Params)
     requires { ⌜ InRange (paramsValue params) × (length (now words) ≡ wordCount (paramsValue params)) ⌝ }
@@ -73,7 +59,11 @@ pub fn write_fresh(words: &mut [u32], params: Params)
     words[head_word::QUIESCENCE] = params.quiescence;
     words[head_word::FALLBACK] = params.fallback;
     words[head_word::LATENESS] = params.lateness;
-    set_present(words, params.hazards, params.processes);
+    let mut p: u32 = 0;
+    while p < params.processes {
+        words[crate::process_start(params.hazards, p) + lead_word::PRESENT] = 1;
+        p += 1;
+    }
 }
 
 // The words that a domain of N processes, K hazards a process and M nodes takes; 0 unless each is in its range.

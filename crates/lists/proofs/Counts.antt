@@ -7,6 +7,7 @@ use native.Mathlib.Omega.{arith}
 use native.Mathlib.Nat.{suc-add, add-suc, add-zero}
 use lib.ListN.{length, getD, set, replicate}
 use Rattle.lists.specs.Tests.{count, countFrom}
+use Rattle.lists.proofs.Turns.{one-most}
 
 -- at most one more where the second test holds too
 one-le : (a b : Bool) (m n : ℕ) → (a ≡ true → b ≡ true) → m ≤ n → cond a 1 0 + m ≤ cond b 1 0 + n
@@ -14,10 +15,6 @@ one-le true true m n f h = omega arith
 one-le true false m n f h = absurd (false≢true (f refl))
 one-le false true m n f h = omega arith
 one-le false false m n f h = omega arith
-
-one-most : (b : Bool) → cond b 1 0 ≤ 1
-one-most true = omega arith
-one-most false = omega arith
 
 pub count-mono : {A : Type 0} (f g : A → Bool) (l : List A) → ((a : A) → f a ≡ true → g a ≡ true) → count f l ≤ count g l
 count-mono f g [] h = omega arith
@@ -34,11 +31,6 @@ count-most f (x ∷ xs) = by (f x) (count-most f xs)
 pub count-map : {A B : Type 0} (f : B → Bool) (g : A → B) (l : List A) → count f (map g l) ≡ count (λ a. f (g a)) l
 count-map f g [] = refl
 count-map f g (x ∷ xs) = ap (λ n. cond (f (g x)) 1 0 + n) (count-map f g xs)
-
--- a change that the test does not see
-pub count-kept : {A : Type 0} (f : A → Bool) (g : A → A) (l : List A) → ((a : A) → f (g a) ≡ f a) → count f (map g l) ≡ count f l
-count-kept f g [] h = refl
-count-kept f g (x ∷ xs) h = rw (h x, count-kept f g xs h)
 
 -- a change of those alone that pass h
 pub count-changed : {A : Type 0} (f h : A → Bool) (g : A → A) (l : List A) → ((a : A) → h a ≡ false → g a ≡ a)

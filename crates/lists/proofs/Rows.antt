@@ -7,7 +7,7 @@ use mathlib.Core.Path.{_≡_, refl, ap, sym, _∙_}
 use native.Mathlib.Omega.{arith}
 use native.Mathlib.Nat.{zero-mul, suc-mul, zero-add, suc-add, mul-le-mul-right, not-suc-le-zero}
 use lib.ListN.{length, take, drop, getD, set, replicate, replicate-append-replicate, length-append, length-take}
-use lib.ListN.{length-drop, List·getD-append}
+use lib.ListN.{length-drop, length-replicate, getD-replicate, List·getD-append}
 use lib.Seq.{length-take-le, take-append-le, take-append-add, drop-append-add, getD-append-add, set-append-left}
 use lib.Seq.{drop-append-le, take-at, drop-at, drop-drop, take-take, take-nil, take-add, sets, sets-eq}
 use Rattle.lists.specs.Rows.{rows, unrows, Codec}
@@ -94,18 +94,13 @@ rows-zeros put w (suc n) x e =
 -- the same row n times: how long, and one more
 module _ {X : Type 0} (put : X → List ℕ) (x : X) where
   pub repeat-length : (w n : ℕ) → length (put x) ≡ w → length (rows put (replicate n x)) ≡ n * w
-  repeat-length w zero e = rw zero-mul
-  repeat-length w (suc n) e = simp length-append (omega (arith, suc-mul n w, repeat-length w n e))
+  repeat-length w n e =
+      length-rows put w x (replicate n x) (λ i l. ap (λ (y : X). length (put y)) (getD-replicate n i x x (omega (arith, length-replicate n x))) ∙ e)
+      ∙ ap (λ (m : ℕ). m * w) (length-replicate n x)
 
   pub rows-repeat : (n : ℕ) → rows put (replicate (suc n) x) ≡ rows put (replicate n x) ++ put x
   rows-repeat zero = append-nil (put x)
   rows-repeat (suc n) = ap (λ (r : List ℕ). put x ++ r) (rows-repeat n) ∙ sym (append-assoc (put x) (rows put (replicate n x)) (put x))
-
--- a store past the first part of a list
-pub set-past : (xs ys : List ℕ) (i j v : ℕ) → i ≡ length xs + j → set (xs ++ ys) i v ≡ xs ++ set ys j v
-set-past [] ys i j v e = ap (λ (n : ℕ). set ys n v) (omega arith)
-set-past (x ∷ xs) ys zero j v e = absurd (omega arith)
-set-past (x ∷ xs) ys (suc i) j v e = ap (λ (r : List ℕ). x ∷ r) (set-past xs ys i j v (omega arith))
 
 -- ---- rows read off a list
 

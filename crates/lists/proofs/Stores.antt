@@ -39,12 +39,6 @@ pub map-again : {A B : Type 0} (f : A → B) (g : A → A) (l : List A) → ((a 
 map-again f g [] h = refl
 map-again f g (x ∷ xs) h = cc (h x, map-again f g xs h)
 
--- a change before and after the function
-pub map-across : {A B : Type 0} (f : A → B) (g : A → A) (k : B → B) (l : List A) → ((a : A) → f (g a) ≡ k (f a))
-    → map f (map g l) ≡ map k (map f l)
-map-across f g k [] h = refl
-map-across f g k (x ∷ xs) h = cc (h x, map-across f g k xs h)
-
 -- what holds of the element and of the default holds at every place of a repeat
 pub replicate-at : {A : Type 0} (P : A → Type 0) (n : ℕ) (a b : A) (i : ℕ) → P a → P b → P (getD (replicate n a) i b)
 replicate-at P zero a b i h k = k

@@ -24,7 +24,7 @@ use Rattle.model.specs.Claims.{turnedFree, reportsFreed, FreedAreCounted
 use Rattle.model.proofs.Walk.{Asked, by-step}
 use Rattle.model.proofs.KindNumbers.{same-kind}
 use Rattle.model.proofs.Freeing.{Reclaims, reclaims-none, retired-by, reclaim-reclaims, manage-reclaims}
-use Rattle.model.proofs.Freeing.{handed-at}
+use Rattle.model.proofs.Handed.{handed-at}
 
 -- what a node that became n may have been: nothing but a Free node becomes Free, and no Free node Retired
 record Was (before n : Node) : Type 0 where

@@ -5,7 +5,6 @@ use mathlib.Core.Bool.{Bool, true, false, false≢true}
 use mathlib.Core.List.{List}
 use mathlib.Core.Path.{_≡_, refl, sym}
 use borrow.Author.Tests.{eqb-true}
-use lib.ListN.{List·getD-map}
 use lib.Dec.{eqb}
 use Rattle.lists.specs.Tests.{countFrom}
 use Rattle.lists.specs.Sweep.{sweepFrom}
@@ -13,10 +12,9 @@ use Rattle.lists.proofs.Bools.{both}
 use Rattle.lists.proofs.Counts.{count-none}
 use Rattle.lists.proofs.Sweeps.{sweep-none}
 use Rattle.model.specs.Params.{Params}
-use Rattle.model.specs.State.{Node, Domain, Step, Fast, Retired, freeNode, nodeOf, processOf, withPath}
+use Rattle.model.specs.State.{Node, Domain, Step, Fast, Retired, freeNode, withPath}
 use Rattle.model.specs.Retire.{Effect, effect, retiredBy, within, dueIn, scan, fallBack, reclaim}
 use Rattle.model.specs.Epochs.{expired, quiescent, counted, manage}
-use Rattle.model.specs.Leave.{handed, handOver}
 use Rattle.model.proofs.Walk.{by-reclaim, by-quiescent, by-manage}
 
 -- from nodes ns
@@ -69,11 +67,6 @@ quiescent-reclaims d p =
       params = refl;
       nodes = refl;
     })
-
--- ---- a leave frees nothing: each node, handed over or as it was
-pub handed-at : (d : Domain) (p q c : ℕ)
-    → nodeOf (handOver d p q) c ≡ handed p q (d .clock) (processOf d q .epoch) (nodeOf d c)
-handed-at d p q c = List·getD-map (handed p q (d .clock) (processOf d q .epoch)) (d .nodes) c freeNode
 
 -- ---- Retire, once its node is marked, and manage
 

@@ -2,13 +2,13 @@
 -- after it. Assumes nothing.
 use Prim.Native.Nat.{ℕ, _-_, _<_}
 use mathlib.Core.Bool.{Bool, true, false, cond}
-use mathlib.Core.List.{List, [], _∷_, map}
+use mathlib.Core.List.{List, [], _∷_, map, map-map}
 use mathlib.Core.Path.{_≡_, refl, sym, ap, _∙_}
 use borrow.Author.Tests.{lt-ltb, eq-eqb, ne-eqb}
 use lib.ListN.{getD, length-map, List·getD-map}
 use lib.Seq.{map-set-same}
 use Rattle.lists.specs.Tests.{every}
-use Rattle.lists.proofs.Stores.{map-set, map-replicate, map-again, map-across}
+use Rattle.lists.proofs.Stores.{map-set, map-replicate, map-again}
 use Rattle.model.specs.Params.{Params}
 use Rattle.model.specs.State.{Pending, Hazard, Process, Node, Domain, Step, emptyHazard, noProcess}
 use Rattle.model.specs.State.{freeNode, nodeOf, processOf, hazardOf, setProcess, withoutPresence, clearPresence}
@@ -127,7 +127,11 @@ cell-handed p q t e n = by (retiredBy p n)
     by false = refl
 
 same-handed : (d : Domain) (p q : ℕ) → withEachCell (image d) (passed p q) ≡ image (handOver d p q)
-same-handed d p q = simp (map-across cell (handed p q (d .clock) (processOf d q .epoch)) (passed p q) (d .nodes) (cell-handed p q (d .clock) (processOf d q .epoch)))
+same-handed d p q =
+    let t = d .clock in
+    let e = processOf d q .epoch in
+    let same = map-map cell (handed p q t e) (d .nodes) ∙ (λ i. map (λ n. cell-handed p q t e n i) (d .nodes)) ∙ sym (map-map (passed p q) cell (d .nodes)) in
+    simp same
 
 -- ---- the reference's step at the image. A retire frees, and a manage does all that it does, after this
 

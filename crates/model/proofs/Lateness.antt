@@ -18,8 +18,9 @@ use Rattle.model.specs.Retire.{fallBack, reclaim}
 use Rattle.model.specs.Epochs.{caughtUp, adopt, quiescent, allCheckedIn, managing, calledBy, counted, manage}
 use Rattle.model.specs.Hazards.{here, young}
 use Rattle.model.specs.Questions.{ask, firstNo, questions, refusalOf}
-use Rattle.model.specs.Machine.{Outcome, act, answered, stepAs, step, run}
-use Rattle.model.specs.Claims.{retiredSince, merged, punctual, punctually, LatenessIsDelay, LatenessInBound, NoLateness}
+use Rattle.model.specs.Machine.{Outcome, act, answered, step, run}
+use Rattle.model.specs.Claims.{retiredSince, merged, punctual, punctually, LatenessIsDelay, LatenessInBound}
+use Rattle.model.specs.Claims.{NoLateness}
 
 -- what a step does, with those parameters
 abbrev with' : Effect → Effect

@@ -11,8 +11,7 @@ use Rattle.lists.proofs.Bools.{by-cond}
 use Rattle.model.specs.State.{Node, Domain, Retired, nodeOf, processOf}
 use Rattle.model.specs.Retire.{retiredBy}
 use Rattle.model.specs.Leave.{unburdened, ownedBy, handOver, leave, join}
-use Rattle.model.proofs.Walk.{Heir, none-assigned}
-use Rattle.model.proofs.Freeing.{handed-at}
+use Rattle.model.proofs.Handed.{Heir, none-assigned, handed-at}
 use Rattle.model.proofs.Invariant.{Inv, HeldBy}
 use Rattle.model.proofs.Updates.{same-nodes, set-process}
 use Rattle.model.proofs.Unclaimed.{bare, retired-now}

@@ -3,6 +3,7 @@ pub mod AtTheEdge
 pub mod AgainstMistakes
 pub mod Walk
 pub mod KindNumbers
+pub mod Handed
 pub mod Unread
 pub mod WellFormed
 pub mod EdgeStarts

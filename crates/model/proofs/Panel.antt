@@ -11,10 +11,10 @@ use lib.ListN.{length, length-set, length-map, length-replicate}
 use lib.Dec.{eqb}
 use Rattle.lists.specs.Tests.{count}
 use Rattle.lists.proofs.Bools.{by-cond}
-use Rattle.lists.proofs.Counts.{count-kept, count-swap, count-replicate}
+use Rattle.lists.proofs.Counts.{count-map, count-swap, count-replicate}
 use Rattle.lists.proofs.Sweeps.{sweep-length, count-others}
 use Rattle.model.specs.Params.{Params}
-use Rattle.model.specs.State.{Node, Domain, Step, Reachable, freeNode, nodeOf, setNode}
+use Rattle.model.specs.State.{Node, Domain, Step, Reachable, freeNode, nodeOf, processOf, setNode}
 use Rattle.model.specs.Kinds.{Kind, kindOf, is, Allocate, Publish, Protect, Check, Use, Clear, Remove}
 use Rattle.model.specs.Kinds.{Retire, Drain, Flush, Tick, Manage, ClearPresence, Reinsert, Leave, Join, Unknown}
 use Rattle.model.specs.Retire.{Effect, retiredBy, marked}
@@ -92,7 +92,8 @@ balanced Reinsert d s h a = stored Reinsert d h (s .node) _ (a .node refl) (rw (
 balanced Leave d s h a =
     record {
       full = length-map (d .nodes) _ ∙ h;
-      even = ap (λ n. n + 0) (count-kept reachable _ (d .nodes) (reachable-handed (s .process) (s .node) _ _));
+      even = ap (λ n. n + 0)
+          (count-map reachable _ (d .nodes) ∙ (λ t. count (λ n. reachable-handed (s .process) (s .node) (d .clock) (processOf d (s .node) .epoch) n t) (d .nodes)));
     }
 balanced Join d s h a = record { full = h; even = refl }
 balanced Unknown d s h a = record { full = h; even = refl }

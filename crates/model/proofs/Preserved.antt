@@ -16,7 +16,8 @@ use Rattle.model.specs.Hazards.{here, pointer, validating, unassigned}
 use Rattle.model.specs.Retire.{Effect, marked, fallBack, reclaim}
 use Rattle.model.specs.Epochs.{calledBy, counted, manage}
 use Rattle.model.specs.Machine.{act, allocating, step, stepAs, fresh}
-use Rattle.model.proofs.Walk.{Asked, heir, acting, by-step, by-reclaim, by-manage}
+use Rattle.model.proofs.Walk.{Asked, acting, by-step, by-reclaim, by-manage}
+use Rattle.model.proofs.Handed.{heir}
 use Rattle.model.proofs.Invariant.{Near, ProcessOk, Inv}
 use Rattle.model.proofs.Updates.{set-node, with-path, clear-presence}
 use Rattle.model.proofs.Buffer.{hazards-here, keep-process, assign-keeps, validate-ok, drain-ok}

@@ -7,13 +7,13 @@ use mathlib.Core.Path.{_≡_, refl, _∙_, ap}
 use mathlib.Core.Logic.{_≢_}
 use borrow.Author.Tests.{eqb-true, eqb-false, ltb-true, not-true, eq-eqb, ne-eqb, lt-ltb}
 use lib.ListN.{length, getD}
-use lib.Dec.{eqb, ltb}
+use lib.Dec.{eqb}
 use Rattle.lists.specs.Tests.{every}
 use Rattle.lists.proofs.Facts.{every-at}
 use Rattle.lists.proofs.Bools.{by-cond, both, implied, imply}
 use Rattle.model.specs.Params.{bufferSize, lastClock}
 use Rattle.model.specs.State.{Domain, Step, Reachable, Fast, Fallback, nodeOf, processOf, withPath}
-use Rattle.model.specs.State.{withEpoch, acts, isPresent, nextEpoch}
+use Rattle.model.specs.State.{withEpoch, acts, nextEpoch}
 use Rattle.model.specs.Kinds.{Kind, is, means, rowOf, meets, Needed, Any, Exactly, ProcessId, HazardId}
 use Rattle.model.specs.Kinds.{NodeId, Protect, Check, Use, Clear, Drain, Tick, Manage, Leave, Join, Unknown}
 use Rattle.model.specs.Hazards.{here, pointer, target, young, unassigned}
@@ -42,21 +42,6 @@ pub record Asked (k : Kind) (d : Domain) (s : Step) : Type 0 where
   pub clock : is k Tick ≡ true → d .clock < lastClock
   pub young' : is k Tick ≡ true → every (young d) (d .processes) ≡ true
   pub unassigned' : is k Manage ≡ true → unassigned (here d s) ≡ true
-
--- what question 22 says of the second process q, and 21 of the hazards
-pub record Heir (d : Domain) (p q : ℕ) : Type 0 where
-  pub below : q < d .params .processes
-  pub other : q ≢ p
-  pub present : isPresent (processOf d q) ≡ true
-
-pub heir : (d : Domain) (p q : ℕ) → takesOver d p q ≡ true → Heir d p q
-heir d p q h =
-    let u = both (ltb q (d .params .processes)) _ h in
-    let v = both (not (eqb q p)) _ (u .1) in
-    record { below = ltb-true _ _ (u .0); other = eqb-false _ _ (not-true _ (v .0)); present = v .1 }
-
-pub none-assigned : (d : Domain) (p : ℕ) → unburdened d p ≡ true → unassigned (processOf d p) ≡ true
-none-assigned d p h = both (unassigned (processOf d p)) _ h .0
 
 -- where no question has the number 0, no first no means all yes
 pub all-yes : (qs : List Question) → every (λ q. not (eqb (q .number) 0)) qs ≡ true → firstNo qs ≡ 0 → every (λ q. q .yes') qs ≡ true

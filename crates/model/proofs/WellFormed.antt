@@ -27,7 +27,8 @@ use Rattle.model.specs.Epochs.{expired, quiescent, calledBy, counted}
 use Rattle.model.specs.Leave.{handed, handOver, join}
 use Rattle.model.specs.Machine.{act, step, fresh, allocating, publishing, removing}
 use Rattle.model.specs.Claims.{StepWellFormed, FreshWellFormed}
-use Rattle.model.proofs.Walk.{Asked, heir, by-step, by-reclaim, by-quiescent, by-manage}
+use Rattle.model.proofs.Walk.{Asked, by-step, by-reclaim, by-quiescent, by-manage}
+use Rattle.model.proofs.Handed.{heir}
 
 -- what a node and a process of a domain must be
 abbrev NodeIn : Domain → Node → Type 0

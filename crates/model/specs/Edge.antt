@@ -290,8 +290,9 @@ cases =
     (domain (params 2 1 2 1 1 1) 3 0 2
     (asleep 0 0 0 [] (hazard 0 0 0 ∷ []) ∷ process 2 0 0 (store 0 0 2 ∷ []) (hazard 1 0 0 ∷ []) ∷ [])
     (retired 1 70 3 2 ∷ retired 1 60 3 2 ∷ []))
-    -- request 4: E is no more than a word; T = 3, E = 2, stamp 0: a scan at clock 5 keeps the card
+    -- request 4: the length does not go by E
     ∷ Length (late 1 1 1 1 1 1 1000) 47
+    -- T = 3, E = 2, stamp 0: a scan at clock 5 keeps the card
     ∷ Run (fresh (late 1 1 2 3 1 1 2)) (turnover 0 0 70 ++ replicate 5 tick ++ turnover 0 1 60)
     (oks 13)
     (domain (late 1 1 2 3 1 1 2) 5 1 0

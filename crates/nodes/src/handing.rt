@@ -14,7 +14,7 @@ ghost use Rattle.nodes.specs.Part.{nodeIn, Part, withNode};
 // Node c, which is Retired, becomes one of q: its state and guest stay.
 fn pass(nodes: &mut [u32], m: u32, c: NodeId, q: ProcessId, time: u32, epoch: u32)
     requires { ⌜ Part m (now nodes) × (c .0 < m) × (nodeIn m (now nodes) (c .0) .state ≡ Retired) ⌝ }
-    ensures { λ _. ⌜ now (nodes .exit) ≡ withNode m (now (nodes .entry)) (c .0) (retiring time epoch (ownedBy (q .0) (nodeIn m (now (nodes .entry)) (c .0)))) ⌝ }
+    ensures { λ _. ⌜ (let ns = now (nodes .entry) in now (nodes .exit) ≡ withNode m ns (c .0) (retiring time epoch (ownedBy (q .0) (nodeIn m ns (c .0))))) ⌝ }
 {
     let at = crate::offset(m, c);
     nodes[at + node_word::OWNER] = q.0;

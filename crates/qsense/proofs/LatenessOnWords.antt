@@ -1,5 +1,5 @@
 -- E is nothing but a longer T, carried to the words of the domain. Assumes nothing.
-use Prim.Native.Nat.{_≤_}
+use Prim.Native.Nat.{ℕ, _≤_}
 use mathlib.Core.List.{List}
 use mathlib.Core.Path.{_≡_, refl, sym, ap, _∙_}
 use Rattle.model.specs.Params.{mostTicks, delay}
@@ -10,7 +10,7 @@ use Rattle.model.specs.Claims.{punctual}
 use Rattle.model.proofs.Lateness.{lateness-is-delay, well-punctual}
 use Rattle.layout.specs.Encode.{encode, encodeBy, decodeBy}
 use Rattle.layout.proofs.Checked.{well-formed-sound}
-use Rattle.qsense.specs.Calls.{Reply, throughWords, stepWords, runWords}
+use Rattle.qsense.specs.Calls.{throughWords, stepWords, runWords}
 use Rattle.qsense.specs.Demands.{punctualWords, punctualReply, LatenessIsDelayWords}
 use Rattle.qsense.proofs.ModelOnWords.{step-through, run-through, run-well-formed}
 
@@ -22,7 +22,7 @@ punctual-encoded d = refl
 -- a step after a run is the model's
 after-run : {d : Domain} → WellFormed d → (ss : List Step) (s : Step)
     → stepWords (runWords (encode d) ss) s ≡ throughWords (step (run d ss) s)
-after-run {d} f ss s = ap (λ (w : List _). stepWords w s) (run-through ss f) ∙ step-through (run-well-formed ss f) s
+after-run {d} f ss s = ap (λ (w : List ℕ). stepWords w s) (run-through ss f) ∙ step-through (run-well-formed ss f) s
 
 punctual-through : (o : Outcome) → throughWords (record { refusal = o .refusal; value = o .value; after = punctual (o .after) })
     ≡ punctualReply (throughWords o)
@@ -31,7 +31,7 @@ punctual-through o = λ t. record { refusal = o .refusal; value = o .value; word
 of-domain : (d : Domain) (ss : List Step) (s : Step) → WellFormed d → delay (d .params) ≤ mostTicks
     → stepWords (runWords (punctualWords (encode d)) ss) s ≡ punctualReply (stepWords (runWords (encode d) ss) s)
 of-domain d ss s f room =
-    ap (λ (w : List _). stepWords (runWords w ss) s) (punctual-encoded d)
+    ap (λ (w : List ℕ). stepWords (runWords w ss) s) (punctual-encoded d)
     ∙ after-run (well-punctual d room f) ss s
     ∙ ap throughWords (lateness-is-delay d ss s)
     ∙ punctual-through (step (run d ss) s)
@@ -41,6 +41,6 @@ pub lateness-is-delay-words : LatenessIsDelayWords
 unfolding decodeBy
 lateness-is-delay-words ws ss s e room =
     let w = well-formed-sound ws e in
-    ap (λ (r : List _). stepWords (runWords (punctualWords r) ss) s) (w .whole)
+    ap (λ (r : List ℕ). stepWords (runWords (punctualWords r) ss) s) (w .whole)
     ∙ of-domain _ ss s (w .domain) room
-    ∙ ap (λ (r : List _). punctualReply (stepWords (runWords r ss) s)) (sym (w .whole))
+    ∙ ap (λ (r : List ℕ). punctualReply (stepWords (runWords r ss) s)) (sym (w .whole))

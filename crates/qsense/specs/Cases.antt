@@ -1,6 +1,6 @@
 -- Calls on the edge of the range of E, with the reply to each written by hand. Assumes nothing.
 use Prim.Native.Nat.{ℕ}
-use mathlib.Core.List.{List, [], _∷_, _++_}
+use mathlib.Core.List.{List, [], _∷_}
 use mathlib.Core.Path.{_≡_}
 use lib.ListN.{replicate}
 use Rattle.model.specs.Cases.{late, tick}

@@ -6,7 +6,7 @@ use Rattle.model.specs.WellFormed.{WellFormed}
 use Rattle.model.specs.State.{Domain, processOf, setProcess, withWords, withPresent}
 use Rattle.model.specs.Kinds.{Leave, Join}
 use Rattle.model.specs.Leave.{handOver}
-use Rattle.model.proofs.Walk.{Heir, heir}
+use Rattle.model.proofs.Handed.{Heir, heir}
 use Rattle.model.proofs.WellFormed.{keep-handed}
 use Rattle.layout.specs.Shape.{Lead, leadOf}
 use Rattle.layout.specs.Encode.{encode, decode, decodeBy, paramsIn}

@@ -56,15 +56,15 @@ store-added x e a l f =
     ∙ (ap₂ (λ (i : ℕ) (q : List ℕ). front i x ++ q) m (buffer-more (x .buffer) e l)
     ∙ sym (front-buffer (withStores x (x .buffer ++ (e ∷ [])) (x .hazards)))))
 
+-- whether a process is present, in the words that hold it
+pub present-written : {r : List ℕ} (x : Process) (t : ℕ) → r ≡ processWords x → set r presentWord t ≡ processWords (withPresent x t)
+unfolding processWordsBy
+present-written x t e = ap (λ (ws : List ℕ). set ws presentWord t) e
+
 module _ (k : ℕ) (r : List ℕ) (s : Stretch k r) where
   pub lead-written : (e c p : ℕ) → sets r 0 (e ∷ c ∷ p ∷ []) ≡ processWords (withWords (processAt k r) e c p)
   unfolding processWordsBy
   lead-written e c p = ap (λ (ws : List ℕ). sets ws 0 (e ∷ c ∷ p ∷ [])) (s .whole)
-
-  pub words-written : (e c p t : ℕ)
-      → set (sets r 0 (e ∷ c ∷ p ∷ [])) presentWord t ≡ processWords (withPresent (withWords (processAt k r) e c p) t)
-  unfolding processWordsBy
-  words-written e c p t = ap (λ (ws : List ℕ). set (sets ws 0 (e ∷ c ∷ p ∷ [])) presentWord t) (s .whole)
 
   -- the words vs of hazard h, from its word j on
   pub hazard-written : (h j a : ℕ) (vs : List ℕ) (y : Hazard) → h < k → j + length vs ≤ hazardWidth → a ≡ hazardPlace shape h + j

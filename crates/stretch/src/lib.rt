@@ -59,9 +59,7 @@ pub fn set_words(row: &mut [u32], at: Place, epoch: u32, calls: u32, presence: u
     requires { ⌜ Stretched at (now row) ⌝ }
     ensures { λ _. ⌜ now (row .exit) ≡ processWords (withPresent (withWords (heldIn at (now (row .entry))) epoch calls presence) present) ⌝ }
 {
-    row[lead_word::EPOCH] = epoch;
-    row[lead_word::CALLS] = calls;
-    row[lead_word::PRESENCE] = presence;
+    set_lead(row, at, epoch, calls, presence);
     row[lead_word::PRESENT] = present;
 }
 

@@ -8,9 +8,10 @@ use native.Mathlib.Omega.{arith}
 use lib.ListN.{set, length-set}
 use lib.Dec.{leb}
 use lib.Seq.{getD-set-other}
-use Rattle.trace.specs.Trace.{refused, traceAt, traceOf, trailerRight}
+use Rattle.trace.specs.Trace.{traceAt, traceOf, trailerRight}
 use Rattle.trace.specs.Bytes.{byteAt, wordAt, stepIn, noStep, stepAt}
-use Rattle.trace.specs.Claims.{FrontLeads, StepsInTurn, EarlierUnread, FourthUnread, BeforeLateness, WrittenRead}
+use Rattle.trace.specs.Claims.{FrontLeads, StepsInTurn, EarlierUnread, FourthUnread, BeforeLateness}
+use Rattle.trace.specs.Claims.{WrittenRead}
 use Rattle.trace.specs.Claims.{GreatestRead}
 use Rattle.trace.proofs.InTurn as T
 use Rattle.trace.proofs.Shifted as S
