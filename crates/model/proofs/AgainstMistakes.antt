@@ -9,7 +9,7 @@ use borrow.Author.Tests.{eq-eqb}
 use Rattle.lists.specs.Tests.{All}
 use Rattle.model.specs.Machine.{step, fresh}
 use Rattle.model.specs.Cases.{Answer}
-use Rattle.model.specs.Mistakes.{ToldApart, mistakes}
+use Rattle.model.specs.ToldApart.{ToldApart, mistakes}
 use Rattle.model.proofs.Each.{_then_}
 
 -- the numbers of all answers, added up

@@ -13,3 +13,4 @@ pub mod Claims
 pub mod Cases
 pub mod Edge
 pub mod Mistakes
+pub mod ToldApart

@@ -1,4 +1,5 @@
 -- `fresh::sizes_in_range` meets its contract: three ranges. Assumes nothing.
+use mathlib.Core.Bool.{_&&_}
 use borrow.Author.Needs.{needs}
 use Rattle.layout.specs.Ranges.{sizesInRange}
 use Rattle.layout.proofs.fresh.sizes_in_range.Statement.{statement}
@@ -15,7 +16,7 @@ up-to-requires-3 c κs = search needs
 
 returns : tie.Need-returns
 unfolding sizesInRange
-returns c = cc
+returns c = λ t. c .before .before .up-to .ensures t && (c .before .up-to2 .ensures t && c .up-to3 .ensures t)
 
 pub sizes-in-range-spec : {M : Type 1} → statement M
 sizes-in-range-spec =
