@@ -1,6 +1,6 @@
 -- The test of well-formed words: it is passed by the words of well-formed domains and by no others, in any lawful layout.
 -- Assumes nothing.
-use Prim.Native.Nat.{ℕ, _+_, _*_, _<_, _≤_}
+use Prim.Native.Nat.{ℕ, _+_, _<_, _≤_}
 use mathlib.Core.Bool.{Bool, true}
 use mathlib.Core.List.{List}
 use mathlib.Core.Path.{_≡_, refl, sym, _∙_, ap}
@@ -18,9 +18,10 @@ use Rattle.model.specs.Params.{mostRetired, mostLateness, lastClock}
 use Rattle.model.specs.State.{Process, Domain, Fallback, noProcess, processOf}
 use Rattle.model.specs.WellFormed.{NodeFits, ProcessFits, WellFormed}
 use Rattle.layout.specs.Shape.{Shape, Head, processWidth, processStart, nodesStart, wordCountBy}
-use Rattle.layout.specs.Encode.{shape, processBy, processWordsBy, encode, encodeBy, decodeBy}
-use Rattle.layout.specs.Words.{between, headFits, processFitsBy, processesFitBy, nodesFitBy, wellFormedBy, wellFormed}
-use Rattle.layout.specs.Sound.{SizesBy, SoundBy, Sound}
+use Rattle.layout.specs.Encode.{shape, processBy, processWordsBy, encode, decodeBy}
+use Rattle.layout.specs.Words.{between, headFits, processFitsBy, processesFitBy, nodesFitBy, wellFormedBy}
+use Rattle.layout.specs.Words.{wellFormed}
+use Rattle.layout.specs.Sound.{SoundBy, Sound}
 use Rattle.layout.proofs.Room.{rows-small}
 use Rattle.layout.proofs.Encode.{Roomy, laid, process-part, nodes-part}
 use Rattle.layout.proofs.Sound.{roomy, sound-encode}

@@ -23,14 +23,14 @@ use Rattle.model.specs.Claims.{retiredSince, merged, punctual, punctuall
 use Rattle.model.specs.Claims.{NoLateness}
 
 -- what a step does, with those parameters
-abbrev with' : Effect → Effect
-with' e = effect (e .value) (punctual (e .after))
+abbrev punctualEffect : Effect → Effect
+punctualEffect e = effect (e .value) (punctual (e .after))
 
 -- T + E + 0 is T + E
 same-delay : (a : Params) → delay (merged a) ≡ delay a
 same-delay a = omega arith
 
-scan-punctual : (d : Domain) (p : ℕ) → scan (punctual d) p ≡ with' (scan d p)
+scan-punctual : (d : Domain) (p : ℕ) → scan (punctual d) p ≡ punctualEffect (scan d p)
 scan-punctual d p =
     λ t. freeing (punctual d)
     (λ c n. within 0 (d .params .nodes) c
@@ -43,32 +43,32 @@ same-refusal k d s =
     young-then : every (young (punctual d)) (d .processes) ≡ every (young d) (d .processes)
     young-then = λ t. every (λ x. every (λ e. ltb (d .clock - e .time) (same-delay (d .params) t)) (x .buffer)) (d .processes)
 
-reclaim-punctual : (d : Domain) (p : ℕ) → reclaim (punctual d) p ≡ with' (reclaim d p)
+reclaim-punctual : (d : Domain) (p : ℕ) → reclaim (punctual d) p ≡ punctualEffect (reclaim d p)
 reclaim-punctual d p =
     (λ t. cond (eqb (d .path) Fallback) (scan-punctual d p t)
     (cond (overfull d p) (scan-punctual (fallBack d) p t) (effect 0 (punctual d))))
-    ∙ ap (λ (e : Effect). cond (eqb (d .path) Fallback) (with' (scan d p)) e) (through-cond with' (overfull d p) _ _)
-    ∙ through-cond with' (eqb (d .path) Fallback) _ _
+    ∙ ap (λ (e : Effect). cond (eqb (d .path) Fallback) (punctualEffect (scan d p)) e) (through-cond punctualEffect (overfull d p) _ _)
+    ∙ through-cond punctualEffect (eqb (d .path) Fallback) _ _
 
-quiescent-punctual : (d : Domain) (p : ℕ) → quiescent (punctual d) p ≡ with' (quiescent d p)
+quiescent-punctual : (d : Domain) (p : ℕ) → quiescent (punctual d) p ≡ punctualEffect (quiescent d p)
 quiescent-punctual d p =
-    ap (λ (e : Effect). cond (eqb (processOf d p .epoch) (d .epoch)) e (with' (adopt d p))) (through-cond with' (caughtUp d) _ _)
-    ∙ through-cond with' (eqb (processOf d p .epoch) (d .epoch)) _ _
+    ap (λ (e : Effect). cond (eqb (processOf d p .epoch) (d .epoch)) e (punctualEffect (adopt d p))) (through-cond punctualEffect (caughtUp d) _ _)
+    ∙ through-cond punctualEffect (eqb (processOf d p .epoch) (d .epoch)) _ _
 
-managing-punctual : (d : Domain) (p : ℕ) → managing (punctual d) p ≡ with' (managing d p)
+managing-punctual : (d : Domain) (p : ℕ) → managing (punctual d) p ≡ punctualEffect (managing d p)
 managing-punctual d p =
     let inner = ap (λ (e : Effect). cond (allCheckedIn d) e (effect 0 (punctual d))) (quiescent-punctual (withPath d Fast) p)
-    ∙ through-cond with' (allCheckedIn d) _ _ in
+    ∙ through-cond punctualEffect (allCheckedIn d) _ _ in
     (λ t. cond (eqb (d .path) Fallback) (inner t) (quiescent-punctual d p t))
-    ∙ through-cond with' (eqb (d .path) Fallback) _ _
+    ∙ through-cond punctualEffect (eqb (d .path) Fallback) _ _
 
-manage-punctual : (d : Domain) (s : Step) → manage (punctual d) s ≡ with' (manage d s)
+manage-punctual : (d : Domain) (s : Step) → manage (punctual d) s ≡ punctualEffect (manage d s)
 manage-punctual d s =
     ap (λ (e : Effect). cond (eqb (calledBy d s) 0) e (effect 0 (punctual (counted d s (calledBy d s) (here d s .presence)))))
     (managing-punctual (counted d s 0 1) (s .process))
-    ∙ through-cond with' (eqb (calledBy d s) 0) _ _
+    ∙ through-cond punctualEffect (eqb (calledBy d s) 0) _ _
 
-act-punctual : (k : Kind) (d : Domain) (s : Step) → act k (punctual d) s ≡ with' (act k d s)
+act-punctual : (k : Kind) (d : Domain) (s : Step) → act k (punctual d) s ≡ punctualEffect (act k d s)
 act-punctual K.Allocate d s = refl
 act-punctual K.Publish d s = refl
 act-punctual K.Protect d s = refl

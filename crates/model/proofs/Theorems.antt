@@ -1,7 +1,8 @@
 -- Each claim of specs/Claims.antt, with its proof. Assumes nothing.
 use Rattle.model.specs.Claims.{RefusedUnchanged, UnreadFields, FreshWellFormed, StepWellFormed, PanelStep}
 use Rattle.model.specs.Claims.{Panel}
-use Rattle.model.specs.Claims.{RemoveTakenBack, FreedAreCounted, Demand3, LatenessIsDelay, LatenessInBound, NoLateness}
+use Rattle.model.specs.Claims.{RemoveTakenBack, FreedAreCounted, Demand3, LatenessIsDelay, LatenessInBound}
+use Rattle.model.specs.Claims.{NoLateness}
 use Rattle.model.proofs.Unread as Unread
 use Rattle.model.proofs.WellFormed as WellFormed
 use Rattle.model.proofs.Panel as Counted

@@ -3,7 +3,7 @@
 use Prim.Native.Nat.{ℕ}
 use mathlib.Core.List.{List, [], _∷_}
 use lib.ListN.{replicate}
-use Rattle.model.specs.Params.{Params}
+use Rattle.model.specs.Params.{Params, paramsOf}
 use Rattle.model.specs.State.{Pending, Hazard, Process, Node, Domain, Step}
 use Rattle.model.specs.Machine.{Outcome}
 
@@ -104,22 +104,9 @@ stopAndBack p =
 -- ---- parameters and domains: each field in the order of its record. The paper's numbers and none of the rules' names, so that a wrong
 -- name there is found out
 
--- N, K, M, T, Q, C and E
-abbrev pub late : ℕ → ℕ → ℕ → ℕ → ℕ → ℕ → ℕ → Params
-late n k m t q c e =
-    record {
-      processes = n;
-      hazards = k;
-      nodes = m;
-      visibilityBound = t;
-      quiescenceThreshold = q;
-      fallbackThreshold = c;
-      lateness = e;
-    }
-
--- and where E is 0: flushes in time
+-- N, K, M, T, Q, C, and E = 0: flushes in time
 abbrev pub params : ℕ → ℕ → ℕ → ℕ → ℕ → ℕ → Params
-params n k m t q c = late n k m t q c 0
+params n k m t q c = paramsOf n k m t q c 0
 
 -- hazard, node + 1, time
 abbrev pub store : ℕ → ℕ → ℕ → Pending

@@ -5,18 +5,19 @@ use mathlib.Core.List.{List, [], _∷_, _++_}
 use mathlib.Core.Path.{_≡_}
 use lib.ListN.{replicate}
 use Rattle.lists.specs.Tests.{count}
-use Rattle.model.specs.Params.{Params, InRange, wordCount}
+use Rattle.model.specs.Params.{Params, paramsOf, InRange, wordCount}
 use Rattle.model.specs.State.{Domain, Step}
 use Rattle.model.specs.WellFormed.{WellFormed}
 use Rattle.model.specs.Kinds.{kindCount}
 use Rattle.model.specs.Machine.{step, run, fresh}
 use Rattle.model.specs.Retire.{retiredBy}
 use Rattle.model.specs.Reference.{Reference, initial}
-use Rattle.model.specs.Claims.{reachableCount, raises, lowers, acceptedOf, led, History, noHistory, recorded, bound}
+use Rattle.model.specs.Claims.{reachableCount, raises, lowers, acceptedOf, led, History, noHistory, recorded}
+use Rattle.model.specs.Claims.{bound}
 use Rattle.model.specs.Cases.{Answer, gives, refuses, oks, answersBy, stepOf, allocate, publish, protect, check}
 use Rattle.model.specs.Cases.{use', clear, remove, retire, drain, flush, tick, manage, clearPresence, reinsert}
 use Rattle.model.specs.Cases.{leave, join}
-use Rattle.model.specs.Cases.{turnover, shownToAll, stopAndBack, late, params, store, hazard, process, asleep, free}
+use Rattle.model.specs.Cases.{turnover, shownToAll, stopAndBack, params, store, hazard, process, asleep, free}
 use Rattle.model.specs.Cases.{allocated}
 use Rattle.model.specs.Cases.{reachable, removed, retired}
 use Rattle.model.specs.Cases.{domain, stray}
@@ -70,7 +71,7 @@ parked =
 -- T = 1000 and E = 1000: at clock 1999 a pending store and a Retired node of clock 0
 abbrev pub overdue : Domain
 overdue =
-    domain (late 1 1 3 1000 1 1 1000) 1999 1 0
+    domain (paramsOf 1 1 3 1000 1 1 1000) 1999 1 0
     (process 0 0 0 (store 0 0 0 ∷ []) (hazard 0 0 0 ∷ []) ∷ [])
     (retired 0 70 0 0 ∷ free ∷ free ∷ [])
 
@@ -291,30 +292,30 @@ cases =
     (asleep 0 0 0 [] (hazard 0 0 0 ∷ []) ∷ process 2 0 0 (store 0 0 2 ∷ []) (hazard 1 0 0 ∷ []) ∷ [])
     (retired 1 70 3 2 ∷ retired 1 60 3 2 ∷ []))
     -- request 4: the length does not go by E
-    ∷ Length (late 1 1 1 1 1 1 1000) 47
+    ∷ Length (paramsOf 1 1 1 1 1 1 1000) 47
     -- T = 3, E = 2, stamp 0: a scan at clock 5 keeps the card
-    ∷ Run (fresh (late 1 1 2 3 1 1 2)) (turnover 0 0 70 ++ replicate 5 tick ++ turnover 0 1 60)
+    ∷ Run (fresh (paramsOf 1 1 2 3 1 1 2)) (turnover 0 0 70 ++ replicate 5 tick ++ turnover 0 1 60)
     (oks 13)
-    (domain (late 1 1 2 3 1 1 2) 5 1 0
+    (domain (paramsOf 1 1 2 3 1 1 2) 5 1 0
     (process 0 0 0 [] (hazard 0 0 0 ∷ []) ∷ [])
     (retired 0 70 0 0 ∷ retired 0 60 5 0 ∷ []))
     -- at 6 frees it
-    ∷ Run (fresh (late 1 1 2 3 1 1 2)) (turnover 0 0 70 ++ replicate 6 tick ++ turnover 0 1 60)
+    ∷ Run (fresh (paramsOf 1 1 2 3 1 1 2)) (turnover 0 0 70 ++ replicate 6 tick ++ turnover 0 1 60)
     (oks 13 ++ gives 1 ∷ [])
-    (domain (late 1 1 2 3 1 1 2) 6 1 0
+    (domain (paramsOf 1 1 2 3 1 1 2) 6 1 0
     (process 0 0 0 [] (hazard 0 0 0 ∷ []) ∷ [])
     (free ∷ retired 0 60 6 0 ∷ []))
     -- a tick with mail of age T + E − 1 is taken, with mail of age T + E it gets 16, and the rooster helps
-    ∷ Run (fresh (late 1 1 1 3 1 1 2)) (clear 0 0 ∷ replicate 6 tick ++ flush 0 ∷ tick ∷ [])
+    ∷ Run (fresh (paramsOf 1 1 1 3 1 1 2)) (clear 0 0 ∷ replicate 6 tick ++ flush 0 ∷ tick ∷ [])
     (oks 6 ++ refuses 16 ∷ gives 0 ∷ gives 0 ∷ [])
-    (domain (late 1 1 1 3 1 1 2) 6 0 0 (process 0 0 0 [] (hazard 0 0 0 ∷ []) ∷ []) (free ∷ []))
+    (domain (paramsOf 1 1 1 3 1 1 2) 6 0 0 (process 0 0 0 [] (hazard 0 0 0 ∷ []) ∷ []) (free ∷ []))
     -- E = 1000 and T = 1000: mail of age 1999 is young and of 2000 is not; a scan at age 2000 keeps the card, at 2001 it frees it
     ∷ Run overdue (tick ∷ tick ∷ turnover 0 1 60 ++ flush 0 ∷ tick ∷ turnover 0 2 61)
     (gives 0 ∷ refuses 16 ∷ oks 9 ++ gives 1 ∷ [])
-    (domain (late 1 1 3 1000 1 1 1000) 2001 1 0
+    (domain (paramsOf 1 1 3 1000 1 1 1000) 2001 1 0
     (process 0 0 0 [] (hazard 0 0 0 ∷ []) ∷ [])
     (free ∷ retired 0 60 2000 0 ∷ retired 0 61 2001 0 ∷ []))
     -- the bound counts what was retired over T + E ticks: 1 and 4, of which T alone would count 2
-    ∷ Unfreed (late 1 1 4 1 1 1 2)
+    ∷ Unfreed (paramsOf 1 1 4 1 1 1 2)
     (turnover 0 0 70 ++ tick ∷ turnover 0 1 71 ++ tick ∷ turnover 0 2 72 ++ tick ∷ turnover 0 3 73) 0 4 5
     ∷ []

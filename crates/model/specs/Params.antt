@@ -17,6 +17,19 @@ pub record Params : Type 0 where
   -- E, ticks: a flush (the rooster's) may come so much later than it is due
   pub lateness : ℕ
 
+-- N, K, M, T, Q, C and E, in this order
+abbrev pub paramsOf : ℕ → ℕ → ℕ → ℕ → ℕ → ℕ → ℕ → Params
+paramsOf n k m t q c e =
+    record {
+      processes = n;
+      hazards = k;
+      nodes = m;
+      visibilityBound = t;
+      quiescenceThreshold = q;
+      fallbackThreshold = c;
+      lateness = e;
+    }
+
 -- the most of each (documents 01 and 02); the least is 1, of E it is 0
 abbrev pub mostProcesses : ℕ
 mostProcesses = 16

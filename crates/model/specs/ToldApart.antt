@@ -5,14 +5,14 @@ use mathlib.Core.List.{List, [], _∷_, _++_, map}
 use mathlib.Core.Path.{_≡_}
 use mathlib.Core.Logic.{_≢_}
 use lib.ListN.{replicate}
-use Rattle.model.specs.Params.{Params}
+use Rattle.model.specs.Params.{Params, paramsOf}
 use Rattle.model.specs.State.{Domain, Step}
 use Rattle.model.specs.State.{nodeOf}
 use Rattle.model.specs.Machine.{Outcome, step, fresh}
 use Rattle.model.specs.Claims.{reachableCount}
 use Rattle.model.specs.Cases.{Answer, gives, refuses, oks, answersBy, runBy, allocate, publish, protect, check}
 use Rattle.model.specs.Cases.{use', clear, remove, retire, flush, tick, manage, reinsert, leave, join}
-use Rattle.model.specs.Cases.{turnover, shownToAll, stopAndBack, late, params, stray}
+use Rattle.model.specs.Cases.{turnover, shownToAll, stopAndBack, params, stray}
 use Rattle.model.specs.Mistakes.{freesAtAgeT, noStoreOnFastPath, freesTwoEpochsOn, scansCurrentListOnly}
 use Rattle.model.specs.Mistakes.{keepsPresence, noVisibleTest, tickOneLate, noQuestion17, checksRemoved, overC}
 use Rattle.model.specs.Mistakes.{ownUnknown, ownFirst, ownAssigned, othersKnown, ownVisibleToo}
@@ -155,12 +155,12 @@ mistakes =
     ∷ replicate 3 (manage 1) ++ allocate 1 0 80 ∷ publish 1 0 ∷ use' 0 0 ∷ [])
     (oks 15 ++ kept) (oks 14 ++ gives 1 ∷ [] ++ freed)
     -- at clock 2 the store of process 1 is not visible yet, and node 0 is 2 old
-    ∷ mistake scanNotLate (late 2 1 2 1 1 1 1) (claimed ++ tick ∷ tick ∷ [] ++ turnover 0 1 60 ++ reused)
+    ∷ mistake scanNotLate (paramsOf 2 1 2 1 1 1 1) (claimed ++ tick ∷ tick ∷ [] ++ turnover 0 1 60 ++ reused)
     (oks 12 ++ kept) (oks 11 ++ gives 1 ∷ [] ++ freed)
     -- at clock 1 the store of process 1 is 1 old
-    ∷ mistake tickNotLate (late 2 1 2 1 1 1 1) (claimed ++ tick ∷ tick ∷ []) (oks 8) (oks 7 ++ refuses 16 ∷ [])
+    ∷ mistake tickNotLate (paramsOf 2 1 2 1 1 1 1) (claimed ++ tick ∷ tick ∷ []) (oks 8) (oks 7 ++ refuses 16 ∷ [])
     -- at clock 3 node 0 is 3 old, and at clock 5 the store is 2 old
-    ∷ mistake lateTwice (late 1 1 2 1 1 1 1)
+    ∷ mistake lateTwice (paramsOf 1 1 2 1 1 1 1)
     (turnover 0 0 70 ++ replicate 3 tick ++ turnover 0 1 60 ++ clear 0 0 ∷ replicate 3 tick)
     (oks 10 ++ gives 1 ∷ [] ++ oks 3 ++ refuses 16 ∷ []) (oks 15)
     ∷ []

@@ -6,7 +6,7 @@ use Rattle.model.specs.Params.{mostTicks, delay}
 use Rattle.model.specs.State.{Domain, Step}
 use Rattle.model.specs.WellFormed.{WellFormed}
 use Rattle.model.specs.Machine.{Outcome, step, run}
-use Rattle.model.specs.Claims.{punctual}
+use Rattle.model.specs.Claims.{punctual, punctually}
 use Rattle.model.proofs.Lateness.{lateness-is-delay, well-punctual}
 use Rattle.layout.specs.Encode.{encode, encodeBy, decodeBy}
 use Rattle.layout.proofs.Checked.{well-formed-sound}
@@ -24,8 +24,7 @@ after-run : {d : Domain} → WellFormed d → (ss : List Step) (s : Step)
     → stepWords (runWords (encode d) ss) s ≡ throughWords (step (run d ss) s)
 after-run {d} f ss s = ap (λ (w : List ℕ). stepWords w s) (run-through ss f) ∙ step-through (run-well-formed ss f) s
 
-punctual-through : (o : Outcome) → throughWords (record { refusal = o .refusal; value = o .value; after = punctual (o .after) })
-    ≡ punctualReply (throughWords o)
+punctual-through : (o : Outcome) → throughWords (punctually o) ≡ punctualReply (throughWords o)
 punctual-through o = λ t. record { refusal = o .refusal; value = o .value; words = sym (punctual-encoded (o .after)) t }
 
 of-domain : (d : Domain) (ss : List Step) (s : Step) → WellFormed d → delay (d .params) ≤ mostTicks

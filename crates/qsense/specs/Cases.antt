@@ -3,7 +3,8 @@ use Prim.Native.Nat.{ℕ}
 use mathlib.Core.List.{List, [], _∷_}
 use mathlib.Core.Path.{_≡_}
 use lib.ListN.{replicate}
-use Rattle.model.specs.Cases.{late, tick}
+use Rattle.model.specs.Params.{paramsOf}
+use Rattle.model.specs.Cases.{tick}
 use Rattle.qsense.specs.Calls.{Reply, refusing, makeWords, stepWords}
 
 -- the words of a fresh domain with one process, hazard and node, T = 1000, and this E: head, lead with its fifth word 1, and the rest
@@ -28,12 +29,12 @@ Replies c = c .reply ≡ c .expected
 abbrev pub cases : List Case
 cases =
     -- E = 1000 is made, in 47 words
-    case (makeWords (replicate 47 7) (late 1 1 1 1000 1 1 1000)) (record { refusal = 0; value = 0; words = freshLate 1000 })
-    -- in the 46 of before it gets 2
-    ∷ case (makeWords (replicate 46 7) (late 1 1 1 1000 1 1 1000)) (refusing 2 (replicate 46 7))
+    case (makeWords (replicate 47 7) (paramsOf 1 1 1 1000 1 1 1000)) (record { refusal = 0; value = 0; words = freshLate 1000 })
+    -- in a word less it gets 2
+    ∷ case (makeWords (replicate 46 7) (paramsOf 1 1 1 1000 1 1 1000)) (refusing 2 (replicate 46 7))
     -- E = 1001 gets 1, before 2
-    ∷ case (makeWords (replicate 47 7) (late 1 1 1 1000 1 1 1001)) (refusing 1 (replicate 47 7))
-    ∷ case (makeWords (replicate 46 7) (late 1 1 1 1000 1 1 1001)) (refusing 1 (replicate 46 7))
+    ∷ case (makeWords (replicate 47 7) (paramsOf 1 1 1 1000 1 1 1001)) (refusing 1 (replicate 47 7))
+    ∷ case (makeWords (replicate 46 7) (paramsOf 1 1 1 1000 1 1 1001)) (refusing 1 (replicate 46 7))
     -- words with E = 1000 are stepped, and with E = 1001 they get 3
     ∷ case (stepWords (freshLate 1000) tick) (record { refusal = 0; value = 0; words = tickedLate 1000 })
     ∷ case (stepWords (freshLate 1001) tick) (refusing 3 (freshLate 1001))

@@ -4,11 +4,12 @@ use layout::NodeId;
 use layout::Params;
 use layout::ProcessId;
 ghost use mathlib.Core.Path.{_≡_};
+ghost use Rattle.model.specs.Params.{paramsOf};
 ghost use Rattle.layout.specs.Ranges.{lengthFor};
 ghost use Rattle.qsense.specs.Calls.{makeWords, stepWords, reachableWords};
 ghost use Rattle.qsense.specs.Runs.{ranOf, runInto};
 ghost use Rattle.domain.specs.Effects.{given};
-ghost use Rattle.qsense_c.specs.Values.{replyOf, paramsOf};
+ghost use Rattle.qsense_c.specs.Values.{replyOf};
 
 #[repr(C)]
 pub struct Answer {

@@ -7,7 +7,8 @@ use lib.ListN.{length, getD}
 use lib.Dec.{leb, eqb}
 use Rattle.model.specs.Params.{Params}
 use Rattle.model.specs.State.{Step}
-use Rattle.trace.specs.Widths.{hazardsByte, nodesByte, visibilityByte, quiescenceByte, fallbackByte, latenessByte}
+use Rattle.trace.specs.Widths.{hazardsByte, nodesByte, visibilityByte, quiescenceByte, fallbackByte}
+use Rattle.trace.specs.Widths.{latenessByte}
 use Rattle.trace.specs.Widths.{processByte, hazardByte, nodeByte, guestByte, stepSize}
 
 abbrev pub byteAt : List ℕ → ℕ → ℕ

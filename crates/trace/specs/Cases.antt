@@ -3,7 +3,8 @@ use Prim.Native.Nat.{ℕ}
 use mathlib.Core.List.{List, [], _∷_, _++_}
 use mathlib.Core.Path.{_≡_}
 use lib.ListN.{length, replicate}
-use Rattle.model.specs.Cases.{late, params, stepOf, allocate, publish, protect, check, use', remove, retire, tick}
+use Rattle.model.specs.Params.{paramsOf}
+use Rattle.model.specs.Cases.{params, stepOf, allocate, publish, protect, check, use', remove, retire, tick}
 use Rattle.trace.specs.Trace.{Reading, refused, given, Trace, traceOf}
 use Rattle.trace.specs.Written.{wordBytes}
 
@@ -86,14 +87,14 @@ cases =
     ∷ case (seven 0 0 ++ trailer 0 40) (refused 1)
     ∷ case (seven 17 0 ++ trailer 0 40) (refused 1)
     -- request 4: E = 1000 is read, E = 1001 is out of its range
-    ∷ case (seven 1 1000 ++ trailer 0 40) (given (record { params = late 1 1 1 1 1 1 1000; steps = [] }))
+    ∷ case (seven 1 1000 ++ trailer 0 40) (given (record { params = paramsOf 1 1 1 1 1 1 1000; steps = [] }))
     ∷ case (seven 1 1001 ++ trailer 0 40) (refused 1)
     -- a book of before, with the distance that it had, and with room in front; the distance of now, and no room for it
     ∷ case (six 1 ++ trailer 0 36) (refused 19)
     ∷ case (7 ∷ 7 ∷ 7 ∷ 7 ∷ (six 1 ++ trailer 0 36)) (refused 19)
     ∷ case (six 1 ++ trailer 0 40) (refused 19)
     -- and with the distance of now and the room: E is what was its C
-    ∷ case (1 ∷ 0 ∷ 0 ∷ 0 ∷ (six 1 ++ trailer 0 40)) (given (record { params = late 1 1 1 1 1 1 1; steps = [] }))
+    ∷ case (1 ∷ 0 ∷ 0 ∷ 0 ∷ (six 1 ++ trailer 0 40)) (given (record { params = paramsOf 1 1 1 1 1 1 1; steps = [] }))
     ∷ []
 
 -- the paper's book with bytes before it that make it 65,536 bytes long: read, whatever they are; 65,537: not

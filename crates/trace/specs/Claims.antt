@@ -9,7 +9,8 @@ use Rattle.lists.specs.Tests.{All}
 use Rattle.layout.specs.Ranges.{inRange}
 use Rattle.trace.specs.Widths.{mostBytes, mostSteps, wordSize, unreadByte, stepSize, trailerSize, leastSize}
 use Rattle.trace.specs.Bytes.{noStep, stepIn, stepAt, stepsFrom}
-use Rattle.trace.specs.Trace.{Reading, refused, given, Front, frontOf, Trace, traceOf, trailerRight, countOf, distanceOf}
+use Rattle.trace.specs.Trace.{Reading, refused, given, Front, frontOf, Trace, traceOf, trailerRight, countOf}
+use Rattle.trace.specs.Trace.{distanceOf}
 use Rattle.trace.specs.Written.{StepFits, traceBytes}
 
 -- the trace that a front leads to

@@ -1,5 +1,6 @@
 -- `wellformed::head_fits` meets its contract: seven ways out with no, then the last three tests. Assumes nothing.
-use Rattle.wellformed.proofs.Head.{In₁, In₂, In₃, In₄, In₅, In₆, In₇, no₁, no₂, no₃, no₄, no₅, no₆, no₇, all-in}
+use Rattle.wellformed.proofs.Head.{In₁, In₂, In₃, In₄, In₅, In₆, In₇, no₁, no₂, no₃, no₄, no₅, no₆, no₇}
+use Rattle.wellformed.proofs.Head.{all-in}
 use Rattle.layout.specs.Encode.{shape}
 use borrow.Author.Tests.{not-true, not-false, le-leb, lt-leb}
 use mathlib.Core.Path.{sym, _∙_}
