@@ -31,7 +31,8 @@ static bool node_well_formed(const uint32_t *x, uint32_t n, uint32_t clock) {
     }
 }
 
-static bool well_formed(const uint32_t *w, size_t len) {
+/* Goes once over the nodes: each is checked and counted. */
+static bool well_formed_counted(const uint32_t *w, size_t len, uint32_t *reachable) {
     if (len < HEAD) return false;
     if (!within(w[T], 1, 1000) || !within(w[Q], 1, 1000) || !within(w[C], 1, 256) || !within(w[E], 0, 1000)) return false;
     if (w[PATH] > FALLBACK || w[EPOCH] > 2) return false;
@@ -40,9 +41,18 @@ static bool well_formed(const uint32_t *w, size_t len) {
     const uint32_t *at = w + HEAD;
     for (uint32_t p = 0; p < n; p++, at += process_width(k))
         if (!process_well_formed(at, k, m, q, clock)) return false;
-    for (uint32_t c = 0; c < m; c++, at += NODE)
+    uint32_t count = 0;
+    for (uint32_t c = 0; c < m; c++, at += NODE) {
         if (!node_well_formed(at, n, clock)) return false;
+        count += at[STATE] == REACHABLE;
+    }
+    *reachable = count;
     return true;
+}
+
+static bool well_formed(const uint32_t *w, size_t len) {
+    uint32_t unused;
+    return well_formed_counted(w, len, &unused);
 }
 
 #endif

@@ -62,7 +62,16 @@ qsense_answer plain_step(uint32_t *words, size_t len, uint32_t kind, uint32_t pr
     return step_known(words, kind, process, hazard, node, guest);
 }
 
+bool plain_well_formed(const uint32_t *words, size_t len) {
+    return well_formed(words, len);
+}
+
 qsense_answer plain_reachable(const uint32_t *words, size_t len) {
+    uint32_t count;
+    return well_formed_counted(words, len, &count) ? accepted(count) : refused(3);
+}
+
+qsense_answer plain_reachable_in_two(const uint32_t *words, size_t len) {
     if (!well_formed(words, len)) return refused(3);
     const uint32_t *x = words + len - NODE * words[M];
     uint32_t count = 0;

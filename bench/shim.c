@@ -1,4 +1,5 @@
-/* Stands in for the library: the calls of qsense.h, answered by plain C. For work on the harness where there is no library. */
+/* Stands in for the libraries: the calls of qsense.h and, last, the benchmark's own, answered by plain C. For work on the harness where
+ * there is no library. */
 #include "plain.h"
 
 uint32_t qsense_length(uint32_t n, uint32_t k, uint32_t m) {
@@ -21,4 +22,12 @@ qsense_answer qsense_reachable(const uint32_t *words, size_t len) {
 
 bool qsense_run(uint32_t *words, size_t len, const uint32_t *steps, size_t steps_len, uint32_t *answers, size_t answers_len) {
     return plain_run(words, len, steps, steps_len, answers, answers_len);
+}
+
+bool bench_well_formed(const uint32_t *words, size_t len) {
+    return plain_well_formed(words, len);
+}
+
+qsense_answer bench_reachable_in_two(const uint32_t *words, size_t len) {
+    return plain_reachable_in_two(words, len);
 }

@@ -5,7 +5,8 @@ use crate::layout::{node_start, process_start, process_width, word_count, HEAD, 
 use crate::library::{Calls, Lent};
 use crate::model::domain::Domain;
 use crate::model::mistake::Rules;
-use crate::model::{reachable_words, step_words, words, Model};
+use crate::model::panel::reachable_words;
+use crate::model::{step_words, words, Model};
 use crate::params::Params;
 use crate::reference::Reference;
 use crate::step::{Answer, Kind, Step};
@@ -50,11 +51,12 @@ impl<'a> Lockstep<'a> {
         let expected = self.model.step(step);
         let answer = self.calls.step(self.lent.words_mut(), step);
         self.agree("step", answer, expected)?;
-        let panel = self.calls.reachable(self.lent.words());
-        self.agree("reachable", panel, Answer::accepted(self.model.domain.reachable()))?;
         self.panel = counted(self.panel, step, answer);
-        if panel.value != self.panel {
-            return Err(format!("reachable: {}, but {} by the accepted steps", panel.value, self.panel));
+        for (call, panel) in self.calls.panel(self.lent.words()) {
+            self.agree(call, panel, Answer::accepted(self.model.panel()))?;
+            if panel.value != self.panel {
+                return Err(format!("{call}: {}, but {} by the accepted steps", panel.value, self.panel));
+            }
         }
         if let Some(reference) = &mut self.reference {
             reference.follow(step, answer, self.lent.words()).map_err(|e| format!("reference: {e}"))?;
@@ -78,11 +80,17 @@ pub fn counted(panel: u32, step: Step, answer: Answer) -> u32 {
     }
 }
 
-/// One step, and the reachable count before it, on any words.
+/// One step, and the reachable counts and the check before it, on any words.
 pub fn on_words(calls: &Calls, rules: Rules, start: &[u32], step: Step) -> Result<Answer, String> {
     let mut lent = Lent::new(start);
-    let mut expected = start.to_vec();
-    same("reachable", calls.reachable(lent.words()), &lent, reachable_words(start, rules), start)?;
+    let (mut expected, expected_panel) = (start.to_vec(), reachable_words(start, rules));
+    for (call, panel) in calls.panel(lent.words()) {
+        same(call, panel, &lent, expected_panel, start)?;
+    }
+    let (well_formed, expected_well) = (calls.well_formed(lent.words()), words::decode(start, rules).is_some());
+    if well_formed != expected_well {
+        return Err(format!("well formed: {well_formed}, expected {expected_well}"));
+    }
     let expected_answer = step_words(&mut expected, step, rules);
     let answer = calls.step(lent.words_mut(), step);
     same("step", answer, &lent, expected_answer, &expected)?;

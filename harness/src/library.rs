@@ -1,4 +1,4 @@
-//! The calls under test: the library's, and those of plain C, which take and answer the same.
+//! The calls under test: the library's with those of crate bench_c, and those of plain C, which take and answer the same.
 
 use crate::params::Params;
 use crate::step::{Answer, Kind, Step};
@@ -7,19 +7,24 @@ type Length = unsafe extern "C" fn(u32, u32, u32) -> u32;
 type Make = unsafe extern "C" fn(*mut u32, usize, u32, u32, u32, u32, u32, u32, u32) -> Answer;
 type StepCall = unsafe extern "C" fn(*mut u32, usize, u32, u32, u32, u32, u32) -> Answer;
 type Reachable = unsafe extern "C" fn(*const u32, usize) -> Answer;
+type WellFormed = unsafe extern "C" fn(*const u32, usize) -> bool;
 type Run = unsafe extern "C" fn(*mut u32, usize, *const u32, usize, *mut u32, usize) -> bool;
 
-// as in include/qsense.h and bench/plain.h
+// as in include/qsense.h and bench/plain.h; those of crate bench_c as their namesakes of plain C
 extern "C" {
     fn qsense_length(n: u32, k: u32, m: u32) -> u32;
     fn qsense_make(w: *mut u32, len: usize, n: u32, k: u32, m: u32, t: u32, q: u32, c: u32, e: u32) -> Answer;
     fn qsense_step(w: *mut u32, len: usize, kind: u32, process: u32, hazard: u32, node: u32, guest: u32) -> Answer;
     fn qsense_reachable(w: *const u32, len: usize) -> Answer;
     fn qsense_run(w: *mut u32, len: usize, s: *const u32, s_len: usize, a: *mut u32, a_len: usize) -> bool;
+    fn bench_reachable_in_two(w: *const u32, len: usize) -> Answer;
+    fn bench_well_formed(w: *const u32, len: usize) -> bool;
     fn plain_length(n: u32, k: u32, m: u32) -> u32;
     fn plain_make(w: *mut u32, len: usize, n: u32, k: u32, m: u32, t: u32, q: u32, c: u32, e: u32) -> Answer;
     fn plain_step(w: *mut u32, len: usize, kind: u32, process: u32, hazard: u32, node: u32, guest: u32) -> Answer;
     fn plain_reachable(w: *const u32, len: usize) -> Answer;
+    fn plain_reachable_in_two(w: *const u32, len: usize) -> Answer;
+    fn plain_well_formed(w: *const u32, len: usize) -> bool;
     fn plain_run(w: *mut u32, len: usize, s: *const u32, s_len: usize, a: *mut u32, a_len: usize) -> bool;
     fn plain_run_trusting(w: *mut u32, len: usize, s: *const u32, s_len: usize, a: *mut u32, a_len: usize) -> bool;
 }
@@ -29,14 +34,31 @@ pub struct Calls {
     make: Make,
     step: StepCall,
     reachable: Reachable,
+    /// the same by a check of all words and then a count
+    reachable_in_two: Reachable,
+    well_formed: WellFormed,
     run: Run,
 }
 
-pub static QSENSE: Calls =
-    Calls { length: qsense_length, make: qsense_make, step: qsense_step, reachable: qsense_reachable, run: qsense_run };
+pub static QSENSE: Calls = Calls {
+    length: qsense_length,
+    make: qsense_make,
+    step: qsense_step,
+    reachable: qsense_reachable,
+    reachable_in_two: bench_reachable_in_two,
+    well_formed: bench_well_formed,
+    run: qsense_run,
+};
 
-pub static PLAIN: Calls =
-    Calls { length: plain_length, make: plain_make, step: plain_step, reachable: plain_reachable, run: plain_run };
+pub static PLAIN: Calls = Calls {
+    length: plain_length,
+    make: plain_make,
+    step: plain_step,
+    reachable: plain_reachable,
+    reachable_in_two: plain_reachable_in_two,
+    well_formed: plain_well_formed,
+    run: plain_run,
+};
 
 /// Plain C whose run checks the words once.
 pub static TRUSTING: Calls = Calls { run: plain_run_trusting, ..PLAIN };
@@ -60,19 +82,39 @@ impl Calls {
         unsafe { (self.reachable)(words.as_ptr(), words.len()) }
     }
 
+    pub fn reachable_in_two(&self, words: &[u32]) -> Answer {
+        unsafe { (self.reachable_in_two)(words.as_ptr(), words.len()) }
+    }
+
+    pub fn well_formed(&self, words: &[u32]) -> bool {
+        unsafe { (self.well_formed)(words.as_ptr(), words.len()) }
+    }
+
+    /// The same calls, but that reachable goes in two passes.
+    pub fn in_two(&self) -> Calls {
+        Calls { reachable: self.reachable_in_two, ..*self }
+    }
+
+    /// The panel's answer by each call that gives it, with the call's name.
+    pub fn panel(&self, words: &[u32]) -> [(&'static str, Answer); 2] {
+        [("reachable", self.reachable(words)), ("reachable in two passes", self.reachable_in_two(words))]
+    }
+
     pub fn run(&self, words: &mut [u32], steps: &[u32], answers: &mut [u32]) -> bool {
         let (s, a) = (steps.as_ptr(), answers.as_mut_ptr());
         unsafe { (self.run)(words.as_mut_ptr(), words.len(), s, steps.len(), a, answers.len()) }
     }
 
-    /// Each call on a null pointer with length 0: the answers of make, step and reachable, and whether an empty run was taken.
-    pub fn on_nothing(&self) -> ([Answer; 3], bool) {
+    /// Each call on a null pointer with length 0: the answers of make, step and reachable, in one pass and in two, and whether an empty
+    /// run was taken.
+    pub fn on_nothing(&self) -> ([Answer; 4], bool) {
         let (none, no) = (std::ptr::null_mut(), std::ptr::null());
         unsafe {
             let [n, k, m, t, q, c, e] = Params::LEAST.numbers();
             let made = (self.make)(none, 0, n, k, m, t, q, c, e);
             let stepped = (self.step)(none, 0, Kind::ClearPresence as u32, 0, 0, 0, 0);
-            ([made, stepped, (self.reachable)(no, 0)], (self.run)(none, 0, no, 0, none, 0))
+            let answers = [made, stepped, (self.reachable)(no, 0), (self.reachable_in_two)(no, 0)];
+            (answers, (self.run)(none, 0, no, 0, none, 0))
         }
     }
 }

@@ -8,7 +8,7 @@ use harness::coverage::Coverage;
 use harness::library::{PLAIN, QSENSE};
 use harness::model::mistake::Rules;
 use harness::report::Report;
-use harness::tests::{books, edges, examples, late, leaving, make, malformed, mistakes, runs, schedules};
+use harness::tests::{books, edges, examples, late, leaving, make, malformed, mistakes, panel, runs, schedules};
 use std::path::PathBuf;
 use std::process::ExitCode;
 use std::time::{Duration, Instant, SystemTime, UNIX_EPOCH};
@@ -83,6 +83,7 @@ fn test(options: &Options) -> ExitCode {
     report.test("random words", || malformed::some_words(&QSENSE, Rules::default(), seed, 30_000, &mut coverage));
     report.test("slices short, long and empty", || malformed::lengths(&QSENSE, Rules::default(), seed, &mut coverage));
     report.test("no words at all", || malformed::nothing(&QSENSE));
+    panel::all(&mut report, &QSENSE, seed);
     report.test("every count met", || schedules::covered(&coverage, options.steps / 6_000));
     report.test("run as steps one by one", || runs::one_by_one(&QSENSE, seed, 3_000));
     report.test("run with lengths that do not fit", || runs::wrong_lengths(&QSENSE, seed));

@@ -6,3 +6,4 @@ pub mod Words
 pub mod Sound
 pub mod Values
 pub mod Ranges
+pub mod Pairs

@@ -9,11 +9,12 @@ use words::lead_word;
 use words::most;
 use words::node_word;
 ghost use mathlib.Core.Path.{_≡_};
-ghost use Prim.Native.Nat.{_+_, _*_, _<_, _≤_, _/_, _%_};
+ghost use Prim.Native.Nat.{_+_, _*_, _<_, _≤_};
 ghost use lib.ListN.{length, replicate};
 ghost use Rattle.model.specs.Params.{mostProcesses, mostHazards, mostNodes};
 ghost use Rattle.layout.specs.Shape.{processWidth, processStart};
 ghost use Rattle.layout.specs.Encode.{shape};
+ghost use Rattle.layout.specs.Pairs.{wordRange, paired, lowIn, highIn};
 
 // A process (the paper's worker), a hazard of a process (slot) and a node (card), each counted from 0.
 pub struct ProcessId(pub u32);
@@ -59,27 +60,27 @@ pub struct Node {
 
 // A word as an index, with the bound that keeps sums of such from wrapping.
 pub fn wide(x: u32) -> usize
-    ensures { λ r. ⌜ (r ≡ x) × (r < 4294967296) ⌝ }
+    ensures { λ r. ⌜ (r ≡ x) × (r < wordRange) ⌝ }
 {
     x as usize
 }
 
 // Two words as one number.
 pub fn pair(low: u32, high: u32) -> usize
-    ensures { λ r. ⌜ (r ≡ low + high * 4294967296) × (low < 4294967296) ⌝ }
+    ensures { λ r. ⌜ (r ≡ paired low high) × (low < wordRange) ⌝ }
 {
     wide(low) + wide(high) * 4294967296
 }
 
 // The first of two words that are one number, and the second.
 pub fn low(pair: usize) -> u32
-    ensures { λ r. ⌜ r ≡ pair % 4294967296 ⌝ }
+    ensures { λ r. ⌜ r ≡ lowIn pair ⌝ }
 {
     (pair % 4294967296) as u32
 }
 
 pub fn high(pair: usize) -> u32
-    ensures { λ r. ⌜ r ≡ pair / 4294967296 ⌝ }
+    ensures { λ r. ⌜ r ≡ highIn pair ⌝ }
 {
     (pair / 4294967296) as u32
 }

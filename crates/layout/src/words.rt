@@ -113,6 +113,8 @@ pub mod states {
     pub const REMOVED: u32 = 3;
 
     pub const RETIRED: u32 = 4;
+
+    pub const COUNT: usize = 5;
 }
 
 // The two paths.

@@ -4,3 +4,4 @@ pub mod Passing
 pub mod Mapping
 pub mod Sweeping
 pub mod ByState
+pub mod GoingOver

@@ -1,8 +1,7 @@
-// Whether the words of the nodes are those of a well-formed domain: each at most a limit that goes by its node's state.
+// Whether the words of a node are those of a well-formed domain: each at most a limit that goes by the node's state.
 use layout::NodeId;
 use layout::words::most;
 use layout::words::node_word;
-use layout::words::states;
 use limits::Faults;
 ghost use mathlib.Core.Path.{_≡_};
 ghost use mathlib.Core.Bool.{_&&_};
@@ -11,7 +10,7 @@ ghost use lib.ListN.{length};
 ghost use Rattle.model.specs.State.{Retired};
 ghost use Rattle.limits.specs.Limits.{none};
 ghost use Rattle.nodes.specs.Part.{nodeIn, Part};
-ghost use Rattle.nodes.specs.NodeLimits.{limitCount, nodeLimits, inLimits, NodesFit};
+ghost use Rattle.nodes.specs.NodeLimits.{limitCount, nodeLimits, inLimits};
 
 // The limits of a node's words but the state, four a row and a row for each state.
 pub const LIMITS: usize = 20;
@@ -38,7 +37,7 @@ pub fn node_limits(last: u32, clock: u32) -> [u32; LIMITS]
 }
 
 // Node c, whose state is one of the five.
-fn node(faults: Faults, nodes: &[u32], m: u32, c: NodeId, limits: &[u32]) -> Faults
+pub fn node(faults: Faults, nodes: &[u32], m: u32, c: NodeId, limits: &[u32]) -> Faults
     requires { ⌜ Part m (now nodes) × (c .0 < m) × (nodeIn m (now nodes) (c .0) .state ≤ Retired) × (length (now limits) ≡ limitCount) ⌝ }
     ensures { λ r. ⌜ none r ≡ (none faults && inLimits (now (limits .entry)) m (now (nodes .entry)) (c .0)) ⌝ }
 {
@@ -51,20 +50,4 @@ fn node(faults: Faults, nodes: &[u32], m: u32, c: NodeId, limits: &[u32]) -> Fau
         limits,
         layout::wide(state) * 4,
     )
-}
-
-// Whether all m nodes fit, and nothing was amiss before. The limits are laid out by the caller, long before they are read.
-pub fn nodes_fit(mut faults: Faults, nodes: &[u32], m: u32, limits: &[u32]) -> bool
-    requires { ⌜ Part m (now nodes) × (length (now limits) ≡ limitCount) ⌝ }
-    ensures { λ r. ⌜ NodesFit (none faults) m (now (nodes .entry)) (now (limits .entry)) r ⌝ }
-{
-    let mut i: u32 = 0;
-    while i < m {
-        if crate::state_of(nodes, m, NodeId(i)) > states::RETIRED {
-            return false;
-        }
-        faults = node(faults, nodes, m, NodeId(i), limits);
-        i += 1;
-    }
-    limits::is_clean(faults)
 }

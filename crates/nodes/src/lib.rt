@@ -3,6 +3,7 @@
 pub mod counts;
 pub mod fits;
 pub mod handing;
+pub mod pass;
 pub mod sweeps;
 
 use layout::Node;

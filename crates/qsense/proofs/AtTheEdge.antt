@@ -8,14 +8,21 @@ use Rattle.layout.specs.Encode.{processWordsBy, encodeBy, processBy, decodeBy}
 use Rattle.layout.specs.Nodes.{nodeFits, nodesFit}
 use Rattle.layout.specs.Words.{headFits, leadFits, hazardFits, storeFits, processFitsBy, wellFormedBy}
 use Rattle.layout.specs.Ranges.{inRange, sizesInRange}
-use Rattle.qsense.specs.Calls.{makeWords, stepWords}
+use Rattle.qsense.specs.Calls.{makeWords, stepWords, reachableWords}
 use Rattle.qsense.specs.Cases.{Replies, cases}
 
 -- a line a case, in the list's order
 pub replied-so : All Replies cases
-unfolding makeWords stepWords step fresh processWordsBy encodeBy processBy decodeBy headFits leadFits hazardFits storeFits processFitsBy nodeFits nodesFit allUpto wellFormedBy inRange sizesInRange
+unfolding makeWords stepWords reachableWords step fresh processWordsBy encodeBy processBy decodeBy headFits leadFits hazardFits storeFits processFitsBy nodeFits nodesFit allUpto wellFormedBy inRange sizesInRange
 replied-so =
     refl
+    then refl
+    then refl
+    then refl
+    then refl
+    then refl
+    then refl
+    then refl
     then refl
     then refl
     then refl

@@ -1,8 +1,10 @@
 -- A call that checks its words first: refused with 3, or what it does to sound words. Assumes nothing.
-use Prim.Native.Nat.{ℕ, _/_, _%_}
-use mathlib.Core.Bool.{Bool, true, false}
+use Prim.Native.Nat.{ℕ}
+use mathlib.Core.Bool.{Bool, true, false, cond, _&&_}
 use mathlib.Core.List.{List}
-use mathlib.Core.Path.{_≡_, sym, _∙_}
+use mathlib.Core.Path.{_≡_, refl, sym, ap, _∙_}
+use borrow.Author.Tests.{eq-eqb}
+use lib.Dec.{eqb}
 use Rattle.model.specs.State.{Step}
 use Rattle.model.specs.Machine.{step}
 use Rattle.model.specs.Claims.{reachableCount}
@@ -12,7 +14,9 @@ use Rattle.layout.specs.Sound.{Sound}
 use Rattle.layout.proofs.Checked.{well-formed-sound, sound-well-formed}
 use Rattle.steps.specs.Stepped as Sound
 use Rattle.qsense.specs.Calls.{Reply, refusing, stepWords, reachableWords}
-use Rattle.qsense.specs.Values.{wordRange, pairReply, Stepped}
+use Rattle.qsense.specs.Values.{replyOf, pairReply, Stepped}
+use Rattle.qsense.specs.declared.Answer.{Answer}
+use Rattle.layout.specs.Pairs.{lowIn, highIn}
 
 module _ (ws : List ℕ) (b : Bool) (e : b ≡ wellFormed ws) where
   pub checked : b ≡ true → Sound ws
@@ -30,7 +34,7 @@ module _ (ws : List ℕ) (b : Bool) (e : b ≡ wellFormed ws) where
   unfolding stepWords
   step-refused s t = record { reply = rw (← e, t); good = e }
 
-  pub step-taken : (s : Step) → b ≡ true → (n : ℕ) (ws' : List ℕ) → Sound.Stepped (step (decode ws) s) (n % wordRange) (n / wordRange) ws'
+  pub step-taken : (s : Step) → b ≡ true → (n : ℕ) (ws' : List ℕ) → Sound.Stepped (step (decode ws) s) (lowIn n) (highIn n) ws'
       → Stepped b s ws n ws'
   unfolding stepWords
   step-taken s t n ws' h =
@@ -39,7 +43,24 @@ module _ (ws : List ℕ) (b : Bool) (e : b ≡ wellFormed ws) where
         good = t ∙ sym (sound-well-formed (h .sound));
       }
 
+-- the reachable count, by the two words of an answer
+pub answered : (ws : List ℕ) {r v : ℕ} → r ≡ cond (wellFormed ws) 0 3 → v ≡ cond (wellFormed ws) (reachableCount (decode ws)) 0
+    → record { refusal = r; value = v; words = ws } ≡ reachableWords ws
+unfolding reachableWords
+answered ws p q = (λ t. record { refusal = p t; value = q t; words = ws }) ∙ by (wellFormed ws)
+  where
+    by : (b : Bool) → record { refusal = cond b 0 3; value = cond b (reachableCount (decode ws)) 0; words = ws }
+        ≡ cond b (record { refusal = 0; value = reachableCount (decode ws); words = ws }) (refusing 3 ws)
+    by true = refl
+    by false = refl
+
+-- answers with the same reply are the same, number by number
+pub alike : (a b : Answer) {ws : List ℕ} {x : Reply} → replyOf a ws ≡ x → replyOf b ws ≡ x → (eqb (a .refusal) (b .refusal) && eqb (a .value) (b .value)) ≡ true
+alike a b p q =
+    let e = p ∙ sym q in
+    λ t. eq-eqb (a .refusal) (b .refusal) (ap (λ (r : Reply). r .refusal) e) t && eq-eqb (a .value) (b .value) (ap (λ (r : Reply). r .value) e) t
+
 -- a reply whose answer is one number, by its two words
-pub unpaired : (n : ℕ) {r v : ℕ} {ws : List ℕ} {x : Reply} → r ≡ n % wordRange → v ≡ n / wordRange → pairReply n ws ≡ x
+pub unpaired : (n : ℕ) {r v : ℕ} {ws : List ℕ} {x : Reply} → r ≡ lowIn n → v ≡ highIn n → pairReply n ws ≡ x
     → record { refusal = r; value = v; words = ws } ≡ x
 unpaired n {ws = ws} p q e = (λ t. record { refusal = p t; value = q t; words = ws }) ∙ e

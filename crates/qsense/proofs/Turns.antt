@@ -1,5 +1,5 @@
 -- One turn of a run: what is left of the steps and of the answers, before and after it. Assumes nothing.
-use Prim.Native.Nat.{ℕ, suc, _+_, _*_, _-_, _/_, _%_, _≤_, _<_}
+use Prim.Native.Nat.{ℕ, suc, _+_, _*_, _-_, _≤_, _<_}
 use mathlib.Core.Bool.{Bool}
 use mathlib.Core.List.{List, [], _∷_, _++_, append-nil, append-assoc}
 use mathlib.Core.Path.{_≡_, refl, sym, ap, _∙_}
@@ -13,7 +13,8 @@ use Rattle.model.specs.State.{Step}
 use Rattle.layout.specs.Shape.{word, stepWidth, answerWidth}
 use Rattle.layout.specs.Words.{wellFormed}
 use Rattle.qsense.specs.Calls.{Reply, stepWords, runWords}
-use Rattle.qsense.specs.Values.{wordRange, Stepped}
+use Rattle.qsense.specs.Values.{Stepped}
+use Rattle.layout.specs.Pairs.{lowIn, highIn}
 use Rattle.domain.specs.Effects.{given}
 use Rattle.qsense.proofs.Checked.{unpaired}
 use Rattle.qsense.specs.Runs.{stepsIn, answersOf, stepIn, Taken, RunOn}
@@ -49,7 +50,7 @@ left-next n i steps h =
     rw (e, drop-drop, f, step-is)
 
 -- of a step whose answer is one number, the i-th answer by its two words
-pub taken : (b : Bool) (s : Step) (i n : ℕ) (ws rs : List ℕ) {r v : ℕ} {ws' : List ℕ} → r ≡ n % wordRange → v ≡ n / wordRange
+pub taken : (b : Bool) (s : Step) (i n : ℕ) (ws rs : List ℕ) {r v : ℕ} {ws' : List ℕ} → r ≡ lowIn n → v ≡ highIn n
     → Stepped b s ws n ws' → Taken b s i ws rs ws' (set (set rs (answerWidth * i + 0) r) (answerWidth * i + 1) v)
 taken b s i n ws rs p q h =
     let x = unpaired n p q (h .reply) in

@@ -1,23 +1,20 @@
 -- The reply that an answer of the code and the words after the call make, and what a step on checked words promises. Assumes nothing.
-use Prim.Native.Nat.{ℕ, _/_, _%_}
+use Prim.Native.Nat.{ℕ}
 use mathlib.Core.Bool.{Bool}
 use mathlib.Core.List.{List}
 use mathlib.Core.Path.{_≡_}
 use Rattle.model.specs.State.{Step}
 use Rattle.layout.specs.Words.{wellFormed}
+use Rattle.layout.specs.Pairs.{lowIn, highIn}
 use Rattle.qsense.specs.Calls.{Reply, stepWords}
 use Rattle.qsense.specs.declared.Answer.{Answer}
 
 abbrev pub replyOf : Answer → List ℕ → Reply
 replyOf r ws = record { refusal = r .refusal; value = r .value; words = ws }
 
--- how many numbers a word holds
-abbrev pub wordRange : ℕ
-wordRange = 4294967296
-
 -- the same of an answer that is one number, the refusal its low word and the value its high one
 abbrev pub pairReply : ℕ → List ℕ → Reply
-pairReply n ws = record { refusal = n % wordRange; value = n / wordRange; words = ws }
+pairReply n ws = record { refusal = lowIn n; value = highIn n; words = ws }
 
 -- a step on words ws of which b says whether they are well formed: n and the words ws' are its reply, and b says the same of ws'
 pub record Stepped (b : Bool) (s : Step) (ws : List ℕ) (n : ℕ) (ws' : List ℕ) : Type 0 where

@@ -1,6 +1,7 @@
 // The calls: make a domain, how many words it takes, a step, a list of steps, and the reachable count. Each takes any words and any
 // numbers.
 mod runs;
+pub mod two_passes;
 
 use layout::HazardId;
 use layout::NodeId;
@@ -55,19 +56,14 @@ pub fn length(n: u32, k: u32, m: u32) -> u32
     layout::fresh::length(n, k, m)
 }
 
-// How many nodes are Reachable. Refused with 3 unless the words are those of a well-formed domain.
+// How many nodes are Reachable, in one pass over them. Refused with 3 unless the words are those of a well-formed domain.
 pub fn reachable(words: &[u32]) -> Answer
     ensures { λ r. ⌜ replyOf r (now (words .entry)) ≡ reachableWords (now (words .entry)) ⌝ }
 {
-    if !wellformed::well_formed(words) {
-        return Answer {
-            refusal: 3,
-            value: 0,
-        };
-    }
+    let answer = wellformed::reachable(words);
     Answer {
-        refusal: 0,
-        value: domain::reachable_count(words),
+        refusal: layout::low(answer),
+        value: layout::high(answer),
     }
 }
 

@@ -1,10 +1,11 @@
 -- What a step on sound words answers and leaves. Assumes nothing.
-use Prim.Native.Nat.{ℕ, _%_, _/_}
+use Prim.Native.Nat.{ℕ}
 use mathlib.Core.List.{List}
 use mathlib.Core.Path.{_≡_}
 use Rattle.model.specs.Machine.{Outcome, step}
 use Rattle.layout.specs.Encode.{encode, decode}
 use Rattle.layout.specs.Sound.{Sound}
+use Rattle.layout.specs.Pairs.{lowIn, highIn}
 use Rattle.domain.specs.Effects.{given}
 
 -- what the model answers to a step of these five numbers on words ws
@@ -18,13 +19,6 @@ pub record Stepped (o : Outcome) (r v : ℕ) (ws' : List ℕ) : Type 0 where
   pub words : ws' ≡ encode (o .after)
   pub sound : Sound ws'
 
--- an answer that is one number (layout::pair): the refusal its low word, the value its high one
-abbrev pub refusalIn : ℕ → ℕ
-refusalIn n = n % 4294967296
-
-abbrev pub valueIn : ℕ → ℕ
-valueIn n = n / 4294967296
-
--- the step answers n and leaves ws'
+-- the step answers n (layout::pair), the refusal its low word and the value its high one, and leaves ws'
 abbrev pub SteppedTo : List ℕ → ℕ → ℕ → ℕ → ℕ → ℕ → ℕ → List ℕ → Type 0
-SteppedTo ws kind p h c guest n ws' = Stepped (outcome ws kind p h c guest) (refusalIn n) (valueIn n) ws'
+SteppedTo ws kind p h c guest n ws' = Stepped (outcome ws kind p h c guest) (lowIn n) (highIn n) ws'

@@ -13,8 +13,8 @@ use Rattle.model.specs.Params.{Params, mostProcesses, mostHazards, mostNodes, m
 use Rattle.model.specs.Params.{mostLateness, lastClock}
 use Rattle.model.specs.State.{Fallback}
 use Rattle.layout.specs.Shape.{Head, nodesStart, wordCountBy}
-use Rattle.layout.specs.Encode.{shape, nodesPart}
-use Rattle.layout.specs.Nodes.{nodesFit}
+use Rattle.layout.specs.Encode.{shape, decode, decodeBy, nodesPart}
+use Rattle.layout.specs.Nodes.{nodesIn, nodesFit}
 use Rattle.layout.specs.Words.{between, headFits, processesFit, wellFormedBy, wellFormed}
 use Rattle.layout.proofs.Room.{rows-small}
 use Rattle.layout.proofs.Checked.{head-facts}
@@ -125,6 +125,10 @@ module _ (ws : List ℕ) where
     pub nodes-are : nodesFit (a₀ .processes) (h₀ .clock) (a₀ .nodes) (take (length ws - a) (drop a ws))
         ≡ nodesFit (a₀ .processes) (h₀ .clock) (a₀ .nodes) (nodesPart ws)
     nodes-are = ap (nodesFit (a₀ .processes) (h₀ .clock) (a₀ .nodes)) part-is
+
+    pub nodes-in : nodesIn (a₀ .nodes) (take (length ws - a) (drop a ws)) ≡ decode ws .nodes
+    unfolding decodeBy
+    nodes-in = ap (nodesIn (a₀ .nodes)) part-is
 
     pub nodes-lent : a₀ .nodes ≤ mostNodes → length ws ≡ wordCountBy shape a₀ → Part (a₀ .nodes) (take (length ws - a) (drop a ws))
     nodes-lent few long =

@@ -1,2 +1,3 @@
 pub mod ProcessWithin
 pub mod Head
+pub mod Answering

@@ -1,1 +1,2 @@
 pub mod ProcessLimits
+pub mod Answers

@@ -162,8 +162,13 @@ impl Domain {
         [process.has_assigned(), !process.buffer.is_empty(), owns(State::Allocated), owns(State::Removed)]
     }
 
+    /// How many nodes are in a state.
+    pub fn count(&self, state: State) -> u32 {
+        self.nodes.iter().filter(|node| node.state() == state).count() as u32
+    }
+
     /// The panel's number.
     pub fn reachable(&self) -> u32 {
-        self.nodes.iter().filter(|node| node.state() == State::Reachable).count() as u32
+        self.count(State::Reachable)
     }
 }

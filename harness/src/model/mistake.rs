@@ -66,6 +66,10 @@ mistakes! {
     ScanWithoutLateness
     TickWithoutLateness
     LatenessTwice
+    // in the panel's pass
+    PanelWellAgain
+    PanelCountsRemoved
+    PanelLeavesOutLast
     // in the order of the questions
     AsksOwnerBeforeState
     AsksAgeBeforeClock

@@ -3,6 +3,7 @@
 pub mod domain;
 mod effects;
 pub mod mistake;
+pub mod panel;
 pub mod questions;
 pub mod words;
 
@@ -75,9 +76,4 @@ pub fn run_words(words: &mut Vec<u32>, steps: &[u32], answers: &mut [u32], rules
         words::encode(&model.domain, words);
     }
     true
-}
-
-/// The panel's answer on words.
-pub fn reachable_words(words: &[u32], rules: Rules) -> Answer {
-    words::decode(words, rules).map_or(Answer::refused(3), |domain| Answer::accepted(domain.reachable()))
 }

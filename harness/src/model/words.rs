@@ -43,16 +43,24 @@ fn stored(node: Option<u32>) -> u32 {
     node.map_or(0, |id| id + 1)
 }
 
-/// The domain that the words are, if they are well formed.
-pub fn decode(words: &[u32], rules: Rules) -> Option<Domain> {
+/// The parameters that the words start with, if they are in range and the words are as many as a domain with them has.
+pub fn params(words: &[u32], rules: Rules) -> Option<Params> {
     let params = Params::from_numbers(words.get(..Params::COUNT)?.try_into().ok()?);
     if !params.in_range() {
         return None;
     }
     let longer = words.len() > word_count(params) && !rules.have(Mistake::TakesLongerSlices);
-    if longer || words.len() < word_count(params) {
-        return None;
-    }
+    (!longer && words.len() >= word_count(params)).then_some(params)
+}
+
+/// The node that its own words are, if they are well formed in a domain with these parameters and this clock.
+pub fn node(words: &[u32], params: Params, clock: u32, rules: Rules) -> Option<Node> {
+    Reader { words: words.iter(), params, clock, rules }.node()
+}
+
+/// The domain that the words are, if they are well formed.
+pub fn decode(words: &[u32], rules: Rules) -> Option<Domain> {
+    let params = params(words, rules)?;
     let mut reader = Reader { words: words[Params::COUNT..].iter(), params, clock: words[CLOCK], rules };
     let clock = reader.any()?;
     let path = if reader.flag()? { Path::Fallback } else { Path::Fast };

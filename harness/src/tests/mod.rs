@@ -10,5 +10,6 @@ pub mod make;
 pub mod malformed;
 pub mod mistakes;
 mod objections;
+pub mod panel;
 pub mod runs;
 pub mod schedules;

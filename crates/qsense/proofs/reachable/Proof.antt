@@ -1,29 +1,26 @@
--- `qsense::reachable` meets its contract: checked, then counted. Assumes nothing.
-use borrow.Author.Tests.{not-true, not-false}
-use Rattle.qsense.proofs.Checked.{count-refused, checked, counted}
+-- `qsense::reachable` meets its contract: the two words of the one pass's answer. Assumes nothing.
+use Rattle.wellformed.proofs.Answering.{low-word, high-word}
+use Rattle.qsense.proofs.Checked.{answered}
 use borrow.Author.Needs.{needs}
 use Rattle.qsense.proofs.reachable.Statement.{statement}
 use Rattle.qsense.proofs.reachable.Tie as tie
 
-well-formed-requires : tie.Need-well-formed-requires
-well-formed-requires c κs = search needs
+reachable-requires : tie.Need-reachable-requires
+reachable-requires c κs = search needs
+
+low-requires : tie.Need-low-requires
+low-requires c κs = search needs
+
+high-requires : tie.Need-high-requires
+high-requires c κs = search needs
 
 returns : tie.Need-returns
 returns c =
-    let at-check = c .before in
-    count-refused (at-check .before .before .args .words .now) _ (at-check .well-formed .ensures) (not-true _ (c .if1 .taken))
-
-reachable-count-requires : tie.Need-reachable-count-requires
-reachable-count-requires c κs =
-    let at-check = c .before in
-    checked (at-check .before .before .args .words .now) _ (at-check .well-formed .ensures) (not-false _ (c .if1 .left))
-
-returns-2 : tie.Need-returns-2
-returns-2 c =
-    let at-check = c .before .before in
-    let good = not-false _ (c .before .if1 .left) in
-    counted (at-check .before .before .args .words .now) _ (at-check .well-formed .ensures) good _ (c .reachable-count .ensures)
+    let at-pass = c .before .before in
+    let ws = at-pass .before .before .args .words .now in
+    let e = at-pass .reachable .ensures in
+    answered ws (low-word ws e (c .before .low .ensures)) (high-word ws e (c .high .ensures))
 
 pub reachable-spec : {M : Type 1} → statement M
 reachable-spec =
-    tie.close (tie.spec well-formed-requires returns reachable-count-requires returns-2)
+    tie.close (tie.spec reachable-requires low-requires high-requires returns)

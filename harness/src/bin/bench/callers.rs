@@ -2,7 +2,8 @@
 
 use harness::library::Calls;
 use harness::model::mistake::Rules;
-use harness::model::{reachable_words, run_words, step_words};
+use harness::model::panel::reachable_words;
+use harness::model::{run_words, step_words};
 use harness::step::{Answer, Step};
 
 pub trait Caller {

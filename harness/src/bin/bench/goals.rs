@@ -13,6 +13,10 @@ pub enum Beside {
     Nothing,
     /// the library's own fastest of the same
     Fastest,
+    /// the call that the library had before, in the same race
+    OldCall,
+    /// the library's check of the words, in the same race
+    Check,
 }
 
 impl Beside {
@@ -22,6 +26,8 @@ impl Beside {
             Beside::COnce => "C once",
             Beside::Nothing => "a program that does nothing",
             Beside::Fastest => "the fastest",
+            Beside::OldCall => "the old call",
+            Beside::Check => "the check alone",
         }
     }
 }
@@ -38,7 +44,7 @@ impl Goal {
             Beside::C => Some(row.plain),
             Beside::COnce => row.trusting,
             Beside::Nothing => row.nothing,
-            Beside::Fastest => None,
+            Beside::Fastest | Beside::OldCall | Beside::Check => None,
         };
         row.library / other.expect("the row has what its goal is beside")
     }
@@ -74,6 +80,20 @@ pub fn check(params: Params, domains: usize) -> Option<Goal> {
 /// A step, or the reachable count.
 pub fn call(params: Params) -> Option<Goal> {
     beside(Beside::C, if least(params) { 1.25 } else { 1.0 })
+}
+
+/// The reachable count in one pass, beside that in two.
+pub fn count_beside_old(params: Params) -> Option<Goal> {
+    beside(Beside::OldCall, if greatest(params) { 0.95 } else { 1.0 })
+}
+
+/// The reachable count beside an unknown step.
+pub fn count_beside_check(params: Params) -> Option<Goal> {
+    if greatest(params) {
+        beside(Beside::Check, 1.08)
+    } else {
+        None
+    }
 }
 
 pub fn mixed_run(params: Params) -> Option<Goal> {

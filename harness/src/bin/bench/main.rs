@@ -1,7 +1,8 @@
 //! bench [--desk PATH]
-//! The library, plain C (gcc -O3, bench/plain.c) and the harness's model side by side in one process. Contenders take turns round by
-//! round, and the best round of each counts. Buffers are not cleared between rounds; where a row changes its domains, they are copied
-//! back before each round, and that is not timed. After the table come the goals: each with its ratio, met or missed.
+//! The library, plain C (gcc -O3, bench/plain.c) and the harness's model side by side in one process; the reachable count also in two
+//! passes, which the library had before (crate bench_c). Contenders take turns round by round, and the best round of each counts.
+//! Buffers are not cleared between rounds; where a row changes its domains, they are copied back before each round, and that is not
+//! timed. After the table come the goals: each with its ratio, met or missed.
 
 mod callers;
 mod cycles;

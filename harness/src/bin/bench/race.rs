@@ -2,6 +2,7 @@
 
 use crate::callers::Caller;
 use harness::layout::{ANSWER, STEP};
+use harness::library::Calls;
 use harness::step::Step;
 use std::cell::RefCell;
 use std::hint::black_box;
@@ -85,6 +86,21 @@ impl<C: Caller> Work for Run<'_, C> {
         let Room { words, answers } = &mut *self.room.borrow_mut();
         assert!(self.caller.run(words, self.steps, answers));
         black_box(answers);
+    }
+}
+
+/// The check of each domain in turn, with no step around it.
+pub struct Checks<'a> {
+    pub calls: &'a Calls,
+    pub domains: &'a [Vec<u32>],
+    pub turns: usize,
+}
+
+impl Work for Checks<'_> {
+    fn run(&mut self) {
+        for turn in 0..self.turns {
+            black_box(self.calls.well_formed(&self.domains[turn % self.domains.len()]));
+        }
     }
 }
 

@@ -2,10 +2,10 @@
 
 use crate::callers::ByModel;
 use crate::goals::{self, Goal};
-use crate::race::{race, Counts, Room, Run, Steps, Work};
+use crate::race::{race, Checks, Counts, Room, Run, Steps, Work};
 use crate::table::{Row, Table};
 use harness::arbitrary;
-use harness::library::{PLAIN, QSENSE, TRUSTING};
+use harness::library::{Calls, PLAIN, QSENSE, TRUSTING};
 use harness::model::mistake::Rules;
 use harness::model::words::words_of;
 use harness::model::Model;
@@ -63,7 +63,7 @@ pub fn all(params: Params, table: &mut Table) {
             |what: &str| format!("{shape}, {what}, {domains} domain{}", if domains == 1 { "" } else { "s in turn" });
         steps(table, &name("check alone"), &plan.start, &plan.unknown(), goals::check(params, domains));
         steps(table, &name("step"), &plan.start, &plan.schedule, goals::call(params));
-        count(table, &name("reachable count"), &plan.start, goals::call(params));
+        count(table, params, &plan, &name);
         if domains == 1 {
             let name = format!("{shape}, run of {STEPS} steps");
             run(table, &name, &plan.start[0], &plan.schedule, goals::mixed_run(params));
@@ -83,11 +83,28 @@ fn steps(table: &mut Table, name: &str, start: &[Vec<u32>], schedule: &[(usize, 
     table.line(name, Row { library: best[0], plain: best[1], model, ..Row::default() }, goal);
 }
 
-fn count(table: &mut Table, name: &str, domains: &[Vec<u32>], goal: Option<Goal>) {
-    let [mut library, mut plain] = [&QSENSE, &PLAIN].map(|caller| Counts { caller, domains, turns: STEPS });
-    let best = race(ROUNDS, STEPS, &mut [&mut library, &mut plain]);
+/// The reachable count in one pass and in two and the check by itself, by the library and by C, and the library's check alone: all in
+/// turns. The model has one form for all three rows.
+fn count(table: &mut Table, params: Params, plan: &Plan, name: &dyn Fn(&str) -> String) {
+    let (domains, unknown, in_two) = (&plan.start, plan.unknown(), [&QSENSE, &PLAIN].map(Calls::in_two));
+    let [mut library, mut old, mut plain, mut plain_old] =
+        [&QSENSE, &in_two[0], &PLAIN, &in_two[1]].map(|caller| Counts { caller, domains, turns: STEPS });
+    let [mut itself, mut plain_itself] = [&QSENSE, &PLAIN].map(|calls| Checks { calls, domains, turns: STEPS });
+    let mut check = Steps::new(&QSENSE, domains, &unknown);
+    let mut works: [&mut dyn Work; 7] =
+        [&mut library, &mut old, &mut plain, &mut plain_old, &mut check, &mut itself, &mut plain_itself];
+    let best = race(ROUNDS, STEPS, &mut works);
     let model = model(STEPS, &mut Counts { caller: &ByModel, domains, turns: STEPS });
-    table.line(name, Row { library: best[0], plain: best[1], model, ..Row::default() }, goal);
+    let row = |library, plain| Row { library, plain, model, ..Row::default() };
+    let one = name("reachable count");
+    table.line(&one, row(best[0], best[2]), goals::call(params));
+    table.line(&name("reachable count in two passes"), row(best[1], best[3]), None);
+    table.line(&name("check by itself"), row(best[5], best[6]), None);
+    for (goal, other) in [(goals::count_beside_old(params), best[1]), (goals::count_beside_check(params), best[4])] {
+        if let Some(goal) = goal {
+            table.judge(&format!("{one}, beside {}", goal.beside.name()), goal, best[0] / other);
+        }
+    }
 }
 
 /// A run by the library, by C that checks before each step, by C that checks once and trusts itself, and by the model, which reads the

@@ -2,6 +2,9 @@
 
 use crate::goals::Goal;
 
+/// The width of the names.
+const NAMES: usize = 70;
+
 /// The best times of a row in ns.
 #[derive(Default)]
 pub struct Row {
@@ -32,7 +35,7 @@ impl Table {
             "Buffers are not cleared; domains that a row changes are copied back before each round, which is not timed."
         );
         let columns = ["library", "C", "C once", "model", "nothing", "library/C", "/C once", "model/C"];
-        println!("{:62}{}", "", columns.map(|column| format!("{column:>11}")).concat());
+        println!("{:NAMES$}{}", "", columns.map(|column| format!("{column:>11}")).concat());
     }
 
     pub fn line(&mut self, name: &str, row: Row, goal: Option<Goal>) {
@@ -48,7 +51,7 @@ impl Table {
             ratio(row.trusting.map(|trusting| row.library / trusting)),
             ratio(Some(row.model / row.plain)),
         ];
-        println!("{name:62}{}", columns.map(|column| format!("{column:>11}")).concat());
+        println!("{name:NAMES$}{}", columns.map(|column| format!("{column:>11}")).concat());
         if let Some(goal) = goal {
             self.judge(name, goal, goal.ratio(&row));
         }
@@ -66,7 +69,7 @@ impl Table {
         for verdict in &self.verdicts {
             let Verdict { name, goal, ratio } = verdict;
             let word = if met(&verdict) { "met" } else { "MISSED" };
-            println!("{name:62}{ratio:>11.2}   {word:6}   at most {:.2} of {}", goal.at_most, goal.beside.name());
+            println!("{name:NAMES$}{ratio:>11.2}   {word:6}   at most {:.2} of {}", goal.at_most, goal.beside.name());
         }
         let count = self.verdicts.iter().filter(met).count();
         println!("{count} goals met, {} missed", self.verdicts.len() - count);

@@ -1,0 +1,65 @@
+-- `pass::further` meets its contract: the node is looked at by the row of its state and, if it is asked, counted by its state. Assumes nothing.
+use native.Mathlib.Omega.{arith}
+use Rattle.nodes.proofs.GoingOver.{light, weight-counts, none-counts, goes-on}
+use Rattle.nodes.specs.Part.{nodeIn}
+use mathlib.Core.Path.{ap}
+use lib.ListN.{length}
+use borrow.Author.Needs.{needs}
+use Rattle.nodes.proofs.pass.further.Statement.{statement}
+use Rattle.nodes.proofs.pass.further.Tie as tie
+
+node-requires : tie.Need-node-requires
+node-requires c κs = search needs
+
+state-of-requires : tie.Need-state-of-requires
+state-of-requires c κs = search needs
+
+wide-requires : tie.Need-wide-requires
+wide-requires c κs = search needs
+
+mul-reachable : tie.Need-mul-reachable
+mul-reachable c = search needs
+
+shared-slice-read-reachable : tie.Need-shared-slice-read-reachable
+shared-slice-read-reachable c =
+    let start = c .before .before .before .before .before .before .before .before in
+    search (needs, ap length (start .pre .1 .1))
+
+add-reachable : tie.Need-add-reachable
+add-reachable c =
+    let start = c .before .before .before .before .before .before .before .before in
+    search (needs, light (c .before .wide .result) (start .pre .1 .1))
+
+returns : tie.Need-returns
+returns c x g =
+    let at-wide = c .before in
+    let at-state-of = at-wide .before in
+    let at-node = at-state-of .before .before in
+    let at-first = at-node .before .before .before in
+    let start = at-first .before in
+    let a = start .args in
+    let n = nodeIn (a .m) (a .nodes .now) (a .c .0) in
+    goes-on (start .pre .0 .0) (start .pre .0 .1) (start .pre .0 .2) (λ j. omega (arith, at-first .shared-slice-known .given j)) (at-node .node .ensures)
+    (weight-counts n (a .known .reachable) (at-state-of .before .if1 .taken) (start .pre .1 .1) (at-wide .wide .ensures .0) (at-state-of .state-of .ensures) (start .pre .0 .2)) g
+
+returns-2 : tie.Need-returns-2
+returns-2 c x g =
+    let at-node = c .before in
+    let at-first = at-node .before .before .before in
+    let start = at-first .before in
+    let a = start .args in
+    goes-on (start .pre .0 .0) (start .pre .0 .1) (start .pre .0 .2) (λ j. omega (arith, at-first .shared-slice-known .given j)) (at-node .node .ensures)
+    (none-counts (nodeIn (a .m) (a .nodes .now) (a .c .0)) (a .known .reachable) (c .if1 .left)) g
+
+pub further-spec : {M : Type 1} → statement M
+further-spec =
+    tie.close
+    (tie.spec
+    node-requires
+    state-of-requires
+    wide-requires
+    mul-reachable
+    shared-slice-read-reachable
+    add-reachable
+    returns
+    returns-2)
