@@ -26,7 +26,7 @@ fn step_checked(
     ensures { λ r. ⌜ Stepped good (given kind (process .0) (hazard .0) (node .0) guest) (now (words .entry)) r (now (words .exit)) ⌝ }
 {
     if !good {
-        return 3;
+        return wellformed::MALFORMED;
     }
     steps::take_step(words, kind, process, hazard, node, guest)
 }

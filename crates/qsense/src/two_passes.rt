@@ -12,7 +12,7 @@ pub fn reachable(words: &[u32]) -> Answer
 {
     if !wellformed::well_formed(words) {
         return Answer {
-            refusal: 3,
+            refusal: wellformed::MALFORMED as u32,
             value: 0,
         };
     }

@@ -24,7 +24,8 @@ module _ (ws : List ℕ) where
   unfolding checkedAnswer
   malformed b e = rw (← e)
 
-  pub counted : (b : Bool) {f : Bool} (n : ℕ) → f ≡ wellFormed ws → f ≡ true → n ≡ count (isCounted b) (decode ws .nodes) → paired 0 n ≡ checkedAnswer b ws
+  pub counted : (b : Bool) {f : Bool} (n : ℕ) → f ≡ wellFormed ws → f ≡ true → n ≡ count (isCounted b) (decode ws .nodes)
+      → paired 0 n ≡ checkedAnswer b ws
   unfolding checkedAnswer
   counted b n e t h = rw (← e, t, h)
 

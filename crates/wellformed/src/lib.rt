@@ -46,7 +46,7 @@ fn head_fits(words: &[u32]) -> bool
 }
 
 // The number of the question that malformed words get.
-const MALFORMED: usize = 3;
+pub const MALFORMED: usize = 3;
 
 // The question as one number (layout::pair): 3 unless the words are those of a well-formed domain; else 0 and, if it is asked, how many nodes are
 // Reachable. One function for both: with a function for each, the processes' check would be folded into neither (docs/DECISIONS.md 112).

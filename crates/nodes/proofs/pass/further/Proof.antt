@@ -39,8 +39,10 @@ returns c x g =
     let start = at-first .before in
     let a = start .args in
     let n = nodeIn (a .m) (a .nodes .now) (a .c .0) in
+    let weighed = weight-counts n (a .known .reachable) (at-state-of .before .if1 .taken) (start .pre .1 .1) (at-wide .wide .ensures .0)
+    (at-state-of .state-of .ensures) (start .pre .0 .2) in
     goes-on (start .pre .0 .0) (start .pre .0 .1) (start .pre .0 .2) (λ j. omega (arith, at-first .shared-slice-known .given j)) (at-node .node .ensures)
-    (weight-counts n (a .known .reachable) (at-state-of .before .if1 .taken) (start .pre .1 .1) (at-wide .wide .ensures .0) (at-state-of .state-of .ensures) (start .pre .0 .2)) g
+    weighed g
 
 returns-2 : tie.Need-returns-2
 returns-2 c x g =

@@ -8,6 +8,9 @@ use Rattle.qsense.proofs.two_passes.reachable.Tie as tie
 well-formed-requires : tie.Need-well-formed-requires
 well-formed-requires c κs = search needs
 
+cast-t4 : tie.Need-cast-t4
+cast-t4 c = search needs
+
 returns : tie.Need-returns
 returns c =
     let at-check = c .before in
@@ -26,4 +29,4 @@ returns-2 c =
 
 pub reachable-spec : {M : Type 1} → statement M
 reachable-spec =
-    tie.close (tie.spec well-formed-requires returns reachable-count-requires returns-2)
+    tie.close (tie.spec well-formed-requires cast-t4 returns reachable-count-requires returns-2)
