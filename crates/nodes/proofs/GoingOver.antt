@@ -10,7 +10,7 @@ use lib.ListN.{getD, take, length-take}
 use lib.Seq.{take-all}
 use lib.Dec.{eqb}
 use Rattle.lists.specs.Tests.{count}
-use Rattle.lists.proofs.Turns.{count-turn}
+use Rattle.lists.proofs.Turns.{one-most, count-turn}
 use Rattle.lists.proofs.Counts.{count-most}
 use Rattle.model.specs.State.{Node, freeNode, Reachable, Retired}
 use Rattle.layout.specs.Nodes.{nodesIn}
@@ -33,17 +33,9 @@ weighed (suc (suc (suc zero))) h = refl
 weighed (suc (suc (suc (suc zero)))) h = refl
 weighed (suc (suc (suc (suc (suc s))))) h = absurd (omega arith)
 
--- and no more than 1 for any
-pub light : (s : ℕ) {ws : List ℕ} → ws ≡ stateWeights → getD ws s 0 ≤ 1
-light s e = rw e (by s)
-  where
-    by : (i : ℕ) → getD stateWeights i 0 ≤ 1
-    by zero = omega arith
-    by (suc zero) = omega arith
-    by (suc (suc zero)) = omega arith
-    by (suc (suc (suc zero))) = omega arith
-    by (suc (suc (suc (suc zero)))) = omega arith
-    by (suc (suc (suc (suc (suc i))))) = omega arith
+-- so no more than 1 for any
+pub light : (s : ℕ) {ws : List ℕ} → ws ≡ stateWeights → s ≤ Retired → getD ws s 0 ≤ 1
+light s e h = rw e (omega (arith, weighed s h, one-most (eqb s Reachable)))
 
 -- a node more, where they are counted and where they are not
 pub weight-counts : {b : Bool} (n : Node) (found : ℕ) {ws : List ℕ} {s w : ℕ} → b ≡ true → ws ≡ stateWeights → w ≡ s → s ≡ n .state

@@ -1,5 +1,7 @@
 -- `pass::further` meets its contract: the node is looked at by the row of its state and, if it is asked, counted by its state. Assumes nothing.
+use Prim.Native.Nat.{_≤_}
 use native.Mathlib.Omega.{arith}
+use Rattle.model.specs.State.{Retired}
 use Rattle.nodes.proofs.GoingOver.{light, weight-counts, none-counts, goes-on}
 use Rattle.nodes.specs.Part.{nodeIn}
 use mathlib.Core.Path.{ap}
@@ -27,8 +29,11 @@ shared-slice-read-reachable c =
 
 add-reachable : tie.Need-add-reachable
 add-reachable c =
-    let start = c .before .before .before .before .before .before .before .before in
-    search (needs, light (c .before .wide .result) (start .pre .1 .1))
+    let at-wide = c .before in
+    let at-state-of = at-wide .before in
+    let start = at-state-of .before .before .before .before .before .before in
+    let few : at-wide .wide .result ≤ Retired = omega (arith, at-wide .wide .ensures .0, at-state-of .state-of .ensures, start .pre .0 .2) in
+    search (needs, light (at-wide .wide .result) (start .pre .1 .1) few)
 
 returns : tie.Need-returns
 returns c x g =
