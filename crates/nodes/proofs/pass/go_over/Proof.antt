@@ -35,7 +35,15 @@ slice-aggregate-further : tie.Need-slice-aggregate-further Inv-loop μ-loop
 slice-aggregate-further c = search needs
 
 further-requires : tie.Need-further-requires Inv-loop μ-loop
-further-requires c κs = search (needs, few (c .before .before .before .before .loop .inv .1))
+further-requires c κs =
+    let past-state = c .before in
+    let at-state-of = past-state .before in
+    let in-loop = at-state-of .before in
+    let at-weights = in-loop .before .before in
+    let start = at-weights .before .before .before in (
+      (start .pre .0, in-loop .loop-test .taken, omega (arith, at-state-of .state-of .ensures, past-state .if1 .left)),
+      (start .pre .1, at-weights .weights .ensures, few (in-loop .before .loop .inv .1)),
+    )
 
 add-i : tie.Need-add-i Inv-loop μ-loop
 add-i c = search needs
