@@ -21,6 +21,14 @@ pub record Counting (f : Node → Bool) (m : ℕ) (r : List ℕ) (found i : ℕ)
   pub few : found ≤ i
   pub passed : found ≡ count f (take i (nodesIn m r))
 
+-- the count alone: a node more, and all of them
+module _ (f : Node → Bool) (m : ℕ) (r : List ℕ) (i : ℕ) {found : ℕ} (h : found ≡ count f (take i (nodesIn m r))) where
+  pub count-more : {v : ℕ} → i < m → v ≡ cond (f (nodeIn m r i)) 1 0 → found + v ≡ count f (take (i + 1) (nodesIn m r))
+  count-more l e = rw (add-one i) (rw (h, e) (count-turn f (nodesIn m r) i freeNode (rw (nodes-length m r) l)))
+
+  pub count-all : m ≤ i → found ≡ count f (nodesIn m r)
+  count-all l = h ∙ ap (count f) (take-all i (nodesIn m r) (rw (nodes-length m r) l))
+
 pub starts : {f : Node → Bool} {m : ℕ} {r : List ℕ} → Part m r → Counting f m r 0 0
 starts h = record { part = h; low = omega arith; few = omega arith; passed = refl }
 
@@ -31,8 +39,8 @@ module _ {f : Node → Bool} {m : ℕ} {r : List ℕ} {found i : ℕ} (h : Count
         part = h .part;
         low = omega arith;
         few = omega (arith, one-most (f (nodeIn m r i)), h .few);
-        passed = rw (add-one i) (rw (h .passed, e) (count-turn f (nodesIn m r) i freeNode (rw (nodes-length m r) l)));
+        passed = count-more f m r i (h .passed) l e;
       }
 
   pub ends : m ≤ i → found ≡ count f (nodesIn m r)
-  ends l = h .passed ∙ ap (count f) (take-all i (nodesIn m r) (rw (nodes-length m r) l))
+  ends l = count-all f m r i (h .passed) l

@@ -1,18 +1,15 @@
 -- One pass over the nodes: what is known at its start, after a node more, where a state is none of the five, and at its end. Assumes nothing.
 use Prim.Native.Nat.{ℕ, zero, suc, _+_, _≤_, _<_}
-use mathlib.Core.Bool.{Bool, true, false, _&&_, cond, false≢true}
+use mathlib.Core.Bool.{Bool, true, false, _&&_, cond}
 use mathlib.Core.List.{List}
 use mathlib.Core.Path.{_≡_, refl, sym, ap, _∙_}
 use native.Mathlib.Omega.{arith}
-use native.Mathlib.Nat.{add-zero}
-use native.Mathlib.Numerals.{add-one}
 use lib.ListN.{getD, take, length-take}
-use lib.Seq.{take-all}
 use lib.Dec.{eqb}
 use Rattle.lists.specs.Tests.{count}
-use Rattle.lists.proofs.Turns.{one-most, count-turn}
+use Rattle.lists.proofs.Turns.{one-most}
 use Rattle.lists.proofs.Counts.{count-most}
-use Rattle.model.specs.State.{Node, freeNode, Reachable, Retired}
+use Rattle.model.specs.State.{Node, Reachable, Retired}
 use Rattle.layout.specs.Nodes.{nodesIn}
 use Rattle.layout.specs.Shape.{word}
 use Rattle.limits.specs.Limits.{none, anyWord}
@@ -21,7 +18,7 @@ use Rattle.nodes.specs.Part.{nodeIn, Part}
 use Rattle.nodes.specs.NodeLimits.{inLimits}
 use Rattle.nodes.specs.Pass.{isCounted, stateWeights, GoneOver, Finds}
 use Rattle.nodes.specs.declared.pass.Known.{Known}
-use Rattle.nodes.proofs.Words.{nodes-length}
+use Rattle.nodes.proofs.Counting.{count-more, count-all}
 use Rattle.nodes.proofs.ByState.{nodes-start, nodes-turn, nodes-stop, nodes-end}
 
 -- the table has 1 for a Reachable node and 0 for the others
@@ -37,13 +34,13 @@ weighed (suc (suc (suc (suc (suc s))))) h = absurd (omega arith)
 pub light : (s : ℕ) {ws : List ℕ} → ws ≡ stateWeights → s ≤ Retired → getD ws s 0 ≤ 1
 light s e h = rw e (omega (arith, weighed s h, one-most (eqb s Reachable)))
 
--- a node more, where they are counted and where they are not
-pub weight-counts : {b : Bool} (n : Node) (found : ℕ) {ws : List ℕ} {s w : ℕ} → b ≡ true → ws ≡ stateWeights → w ≡ s → s ≡ n .state
-    → n .state ≤ Retired → found + getD ws w 0 ≡ found + cond (isCounted b n) 1 0
-weight-counts n found eb ew ei es h = rw (eb, ew, ei, es) (ap (λ (v : ℕ). found + v) (weighed (n .state) h))
+-- what a node adds, where they are counted and where they are not
+pub weight-counts : {b : Bool} (n : Node) {ws : List ℕ} {s w : ℕ} → b ≡ true → ws ≡ stateWeights → w ≡ s → s ≡ n .state
+    → n .state ≤ Retired → getD ws w 0 ≡ cond (isCounted b n) 1 0
+weight-counts n eb ew ei es h = rw (eb, ew, ei, es) (weighed (n .state) h)
 
-pub none-counts : {b : Bool} (n : Node) (found : ℕ) → b ≡ false → found ≡ found + cond (isCounted b n) 1 0
-none-counts n found eb = rw (eb, add-zero found)
+pub none-counts : {b : Bool} (n : Node) → b ≡ false → _≡_ {A = ℕ} 0 (cond (isCounted b n) 1 0)
+none-counts n eb = rw eb
 
 module _ {x b : Bool} {m : ℕ} {r ls : List ℕ} where
   pub starts : {fs : Faults} → x ≡ none fs → GoneOver x b m r ls 0 (record { faults = fs; reachable = 0 })
@@ -53,23 +50,19 @@ module _ {x b : Bool} {m : ℕ} {r ls : List ℕ} where
   pub few : {i : ℕ} {k : Known} → GoneOver x b m r ls i k → k .reachable ≤ i
   few {i} h = omega (arith, h .counted, count-most (isCounted b) (take i (nodesIn m r)), length-take i (nodesIn m r))
 
-  pub goes-on : {i n : ℕ} {k : Known} {fs : Faults} → Part m r → i < m → nodeIn m r i .state ≤ Retired → ((j : ℕ) → word r j ≤ anyWord)
-      → none fs ≡ (none (k .faults) && inLimits ls m r i) → n ≡ k .reachable + cond (isCounted b (nodeIn m r i)) 1 0
+  pub goes-on : {i v n : ℕ} {k : Known} {fs : Faults} → Part m r → i < m → nodeIn m r i .state ≤ Retired → ((j : ℕ) → word r j ≤ anyWord)
+      → none fs ≡ (none (k .faults) && inLimits ls m r i) → v ≡ cond (isCounted b (nodeIn m r i)) 1 0 → n ≡ k .reachable + v
       → GoneOver x b m r ls i k → GoneOver x b m r ls (i + 1) (record { faults = fs; reachable = n })
-  goes-on {i} h l known w hf hn g =
-      record {
-        fits = nodes-turn x r ls h l known w (g .fits) hf;
-        counted =
-            rw (add-one i) (hn ∙ rw (g .counted) (count-turn (isCounted b) (nodesIn m r) i freeNode (rw (nodes-length m r) l)));
-      }
+  goes-on {i} h l known w hf hv hn g =
+      record { fits = nodes-turn x r ls h l known w (g .fits) hf; counted = hn ∙ count-more (isCounted b) m r i (g .counted) l hv }
 
   pub stops : {i : ℕ} → Part m r → i < m → Retired < nodeIn m r i .state → Finds x b m r ls (record { fits = false; reachable = 0 })
-  stops h l many = record { fits = nodes-stop x r ls h l many; counted = λ e. absurd (false≢true e) }
+  stops h l many = record { fits = nodes-stop x r ls h l many; counted = refl }
 
-  pub ends : {i : ℕ} {k : Known} {z : Bool} → i ≡ m → GoneOver x b m r ls i k → z ≡ none (k .faults)
-      → Finds x b m r ls (record { fits = z; reachable = k .reachable })
-  ends {i} e g hz =
+  pub ends : {i : ℕ} {k : Known} {z : Bool} {n : ℕ} → i ≡ m → GoneOver x b m r ls i k → z ≡ none (k .faults) → n ≡ cond z (k .reachable) 0
+      → Finds x b m r ls (record { fits = z; reachable = n })
+  ends {i} {z = z} e g hz hn =
       record {
         fits = nodes-end x r ls e (g .fits) hz;
-        counted = λ _. g .counted ∙ ap (count (isCounted b)) (take-all i (nodesIn m r) (omega (arith, nodes-length m r)));
+        counted = hn ∙ ap (λ (c : ℕ). cond z c 0) (count-all (isCounted b) m r i (g .counted) (omega arith));
       }

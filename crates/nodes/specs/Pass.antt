@@ -1,6 +1,6 @@
 -- What is known after a part of a pass over the nodes, and after the whole of it. Assumes nothing.
 use Prim.Native.Nat.{ℕ, _+_}
-use mathlib.Core.Bool.{Bool, true, _&&_}
+use mathlib.Core.Bool.{Bool, cond, _&&_}
 use mathlib.Core.List.{List, [], _∷_}
 use mathlib.Core.Path.{_≡_}
 use lib.ListN.{take}
@@ -30,7 +30,7 @@ pub record GoneOver (x b : Bool) (m : ℕ) (r limits : List ℕ) (i : ℕ) (k : 
 abbrev pub Further : Bool → ℕ → List ℕ → List ℕ → ℕ → Known → Known → Type 0
 Further b m r limits i k k′ = (x : Bool) → GoneOver x b m r limits i k → GoneOver x b m r limits (i + 1) k′
 
--- of all m nodes: the same; they are counted if all fit
+-- of all m nodes: the same, and a count of 0 where one does not fit
 pub record Finds (x b : Bool) (m : ℕ) (r limits : List ℕ) (f : Found) : Type 0 where
   pub fits : NodesFit x m r limits (f .fits)
-  pub counted : f .fits ≡ true → f .reachable ≡ count (isCounted b) (nodesIn m r)
+  pub counted : f .reachable ≡ cond (f .fits) (count (isCounted b) (nodesIn m r)) 0

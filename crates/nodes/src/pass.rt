@@ -17,7 +17,7 @@ pub struct Known {
     pub reachable: u32,
 }
 
-// What a whole pass finds: the count is of well-formed nodes only.
+// What a whole pass finds: whether all nodes fit, and the count, which is 0 where one does not.
 pub struct Found {
     pub fits: bool,
     pub reachable: u32,
@@ -75,8 +75,9 @@ pub fn go_over(faults: Faults, nodes: &[u32], m: u32, limits: &[u32], counting: 
         known = further(known, nodes, m, NodeId(i), limits, &weights, counting);
         i += 1;
     }
+    let fits = limits::is_clean(known.faults);
     Found {
-        fits: limits::is_clean(known.faults),
-        reachable: known.reachable,
+        fits,
+        reachable: if fits { known.reachable } else { 0 },
     }
 }

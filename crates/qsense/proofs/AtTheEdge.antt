@@ -13,7 +13,8 @@ use Rattle.qsense.specs.Cases.{Replies, cases}
 
 -- a line a case, in the list's order
 pub replied-so : All Replies cases
-unfolding makeWords stepWords reachableWords step fresh processWordsBy encodeBy processBy decodeBy headFits leadFits hazardFits storeFits processFitsBy nodeFits nodesFit allUpto wellFormedBy inRange sizesInRange
+unfolding makeWords stepWords reachableWords step fresh processWordsBy encodeBy processBy decodeBy
+    headFits leadFits hazardFits storeFits processFitsBy nodeFits nodesFit allUpto wellFormedBy inRange sizesInRange
 replied-so =
     refl
     then refl

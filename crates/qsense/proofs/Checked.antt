@@ -3,6 +3,7 @@ use Prim.Native.Nat.{ℕ}
 use mathlib.Core.Bool.{Bool, true, false, cond, _&&_}
 use mathlib.Core.List.{List}
 use mathlib.Core.Path.{_≡_, refl, sym, ap, _∙_}
+use native.Mathlib.Omega.{arith}
 use borrow.Author.Tests.{eq-eqb}
 use lib.Dec.{eqb}
 use Rattle.model.specs.State.{Step}
@@ -16,7 +17,8 @@ use Rattle.steps.specs.Stepped as Sound
 use Rattle.qsense.specs.Calls.{Reply, refusing, stepWords, reachableWords}
 use Rattle.qsense.specs.Values.{replyOf, pairReply, Stepped}
 use Rattle.qsense.specs.declared.Answer.{Answer}
-use Rattle.layout.specs.Pairs.{lowIn, highIn}
+use Rattle.layout.specs.Pairs.{paired, lowIn, highIn}
+use Rattle.wellformed.specs.Answers.{checkedAnswer}
 
 module _ (ws : List ℕ) (b : Bool) (e : b ≡ wellFormed ws) where
   pub checked : b ≡ true → Sound ws
@@ -43,16 +45,17 @@ module _ (ws : List ℕ) (b : Bool) (e : b ≡ wellFormed ws) where
         good = t ∙ sym (sound-well-formed (h .sound));
       }
 
--- the reachable count, by the two words of an answer
-pub answered : (ws : List ℕ) {r v : ℕ} → r ≡ cond (wellFormed ws) 0 3 → v ≡ cond (wellFormed ws) (reachableCount (decode ws)) 0
-    → record { refusal = r; value = v; words = ws } ≡ reachableWords ws
-unfolding reachableWords
-answered ws p q = (λ t. record { refusal = p t; value = q t; words = ws }) ∙ by (wellFormed ws)
+-- the reachable count, by an answer that is one number
+pub answered : (ws : List ℕ) {n : ℕ} → n ≡ checkedAnswer true ws → pairReply n ws ≡ reachableWords ws
+unfolding checkedAnswer reachableWords
+answered ws e = ap (λ (n : ℕ). pairReply n ws) e ∙ by (wellFormed ws) (reachableCount (decode ws))
   where
-    by : (b : Bool) → record { refusal = cond b 0 3; value = cond b (reachableCount (decode ws)) 0; words = ws }
-        ≡ cond b (record { refusal = 0; value = reachableCount (decode ws); words = ws }) (refusing 3 ws)
-    by true = refl
-    by false = refl
+    by : (b : Bool) (c : ℕ) → pairReply (cond b (paired 0 c) 3) ws ≡ cond b (record { refusal = 0; value = c; words = ws }) (refusing 3 ws)
+    by true c =
+        let low : lowIn (paired 0 c) ≡ 0 = omega arith in
+        let high : highIn (paired 0 c) ≡ c = omega arith in
+        λ t. record { refusal = low t; value = high t; words = ws }
+    by false c = refl
 
 -- answers with the same reply are the same, number by number
 pub alike : (a b : Answer) {ws : List ℕ} {x : Reply} → replyOf a ws ≡ x → replyOf b ws ≡ x → (eqb (a .refusal) (b .refusal) && eqb (a .value) (b .value)) ≡ true

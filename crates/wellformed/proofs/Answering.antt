@@ -7,10 +7,9 @@ use native.Mathlib.Omega.{arith}
 use lib.Dec.{eqb}
 use Rattle.lists.specs.Tests.{count}
 use Rattle.model.specs.State.{Node}
-use Rattle.model.specs.Claims.{reachableCount}
 use Rattle.layout.specs.Encode.{decode}
 use Rattle.layout.specs.Words.{wellFormed}
-use Rattle.layout.specs.Pairs.{paired, lowIn, highIn}
+use Rattle.layout.specs.Pairs.{paired}
 use Rattle.nodes.specs.Pass.{isCounted}
 use Rattle.wellformed.specs.Answers.{checkedAnswer}
 
@@ -37,20 +36,3 @@ module _ (ws : List ℕ) where
       by : (b : Bool) → eqb (cond b 0 3) 0 ≡ b
       by true = refl
       by false = refl
-
-  -- the two words of the answer, where the Reachable nodes are counted
-  pub low-word : {r n : ℕ} → r ≡ checkedAnswer true ws → n ≡ lowIn r → n ≡ cond (wellFormed ws) 0 3
-  unfolding checkedAnswer
-  low-word e h = h ∙ ap lowIn e ∙ by (wellFormed ws) (reachableCount (decode ws))
-    where
-      by : (b : Bool) (c : ℕ) → lowIn (cond b (paired 0 c) 3) ≡ cond b 0 3
-      by true c = omega arith
-      by false c = omega arith
-
-  pub high-word : {r n : ℕ} → r ≡ checkedAnswer true ws → n ≡ highIn r → n ≡ cond (wellFormed ws) (reachableCount (decode ws)) 0
-  unfolding checkedAnswer
-  high-word e h = h ∙ ap highIn e ∙ by (wellFormed ws) (reachableCount (decode ws))
-    where
-      by : (b : Bool) (c : ℕ) → highIn (cond b (paired 0 c) 3) ≡ cond b c 0
-      by true c = omega arith
-      by false c = omega arith

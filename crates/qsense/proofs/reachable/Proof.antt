@@ -1,6 +1,5 @@
 -- `qsense::reachable` meets its contract: the two words of the one pass's answer. Assumes nothing.
-use Rattle.wellformed.proofs.Answering.{low-word, high-word}
-use Rattle.qsense.proofs.Checked.{answered}
+use Rattle.qsense.proofs.Checked.{answered, unpaired}
 use borrow.Author.Needs.{needs}
 use Rattle.qsense.proofs.reachable.Statement.{statement}
 use Rattle.qsense.proofs.reachable.Tie as tie
@@ -17,9 +16,8 @@ high-requires c κs = search needs
 returns : tie.Need-returns
 returns c =
     let at-pass = c .before .before in
-    let ws = at-pass .before .before .args .words .now in
-    let e = at-pass .reachable .ensures in
-    answered ws (low-word ws e (c .before .low .ensures)) (high-word ws e (c .high .ensures))
+    unpaired (at-pass .reachable .result) (c .before .low .ensures) (c .high .ensures)
+    (answered (at-pass .before .before .args .words .now) (at-pass .reachable .ensures))
 
 pub reachable-spec : {M : Type 1} → statement M
 reachable-spec =

@@ -1,8 +1,7 @@
 -- `wellformed::checked` meets its contract: three ways out with no, then the pass over processes and nodes. The head's facts are handed
 -- on by `head`, the length by `long`, what the pass finds by `fitting`. Assumes nothing.
 use Rattle.wellformed.proofs.Head.{ready, too-short, bad-head, bad-length, all-fits, nodes-are, nodes-in}
-use Rattle.wellformed.proofs.Head.{nodes-lent}
-use Rattle.wellformed.proofs.Head.{words-long}
+use Rattle.wellformed.proofs.Head.{nodes-lent, words-long}
 use Rattle.wellformed.proofs.Answering.{malformed, counted}
 use Rattle.lists.specs.Tests.{count}
 use Rattle.limits.specs.Limits.{none}
@@ -15,7 +14,7 @@ use Rattle.layout.specs.Codecs.{clockWord}
 use borrow.Author.Tests.{not-true, not-false}
 use lib.ListN.{length}
 use mathlib.Core.Path.{_≡_, sym, ap, _∙_}
-use mathlib.Core.Bool.{Bool, true, _&&_}
+use mathlib.Core.Bool.{Bool, true, cond, _&&_}
 use native.Mathlib.Omega.{arith}
 use borrow.Author.Needs.{needs}
 use Rattle.wellformed.proofs.checked.Statement.{statement}
@@ -57,8 +56,8 @@ counting : (c : tie.After-go-over) → c .go-over .result .fits ≡ true
     → c .go-over .result .reachable ≡ count (isCounted (start-of c .args .counting)) (decode (start-of c .args .words .now) .nodes)
 counting c good =
     let at-process-start = c .before .before .before .before .before .before .before .before in
-    c .go-over .ensures .counted good
-    ∙ ap (count (isCounted (start-of c .args .counting))) (nodes-in (start-of c .args .words .now) (at-process-start .process-start .ensures .0))
+    let same = nodes-in (start-of c .args .words .now) (at-process-start .process-start .ensures .0) in
+    c .go-over .ensures .counted ∙ (λ t. cond (good t) (count (isCounted (start-of c .args .counting)) (same t)) 0)
 
 returns : tie.Need-returns
 returns c = malformed _ _ (too-short (c .before .before .args .words .now) (omega arith))

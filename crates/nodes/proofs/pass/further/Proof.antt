@@ -4,7 +4,8 @@ use native.Mathlib.Omega.{arith}
 use Rattle.model.specs.State.{Retired}
 use Rattle.nodes.proofs.GoingOver.{light, weight-counts, none-counts, goes-on}
 use Rattle.nodes.specs.Part.{nodeIn}
-use mathlib.Core.Path.{ap}
+use mathlib.Core.Path.{refl, sym, ap}
+use native.Mathlib.Nat.{add-zero}
 use lib.ListN.{length}
 use borrow.Author.Needs.{needs}
 use Rattle.nodes.proofs.pass.further.Statement.{statement}
@@ -44,10 +45,10 @@ returns c x g =
     let start = at-first .before in
     let a = start .args in
     let n = nodeIn (a .m) (a .nodes .now) (a .c .0) in
-    let weighed = weight-counts n (a .known .reachable) (at-state-of .before .if1 .taken) (start .pre .1 .1) (at-wide .wide .ensures .0)
-    (at-state-of .state-of .ensures) (start .pre .0 .2) in
+    let weighed = weight-counts n (at-state-of .before .if1 .taken) (start .pre .1 .1) (at-wide .wide .ensures .0) (at-state-of .state-of .ensures)
+    (start .pre .0 .2) in
     goes-on (start .pre .0 .0) (start .pre .0 .1) (start .pre .0 .2) (λ j. omega (arith, at-first .shared-slice-known .given j)) (at-node .node .ensures)
-    weighed g
+    weighed refl g
 
 returns-2 : tie.Need-returns-2
 returns-2 c x g =
@@ -56,7 +57,7 @@ returns-2 c x g =
     let start = at-first .before in
     let a = start .args in
     goes-on (start .pre .0 .0) (start .pre .0 .1) (start .pre .0 .2) (λ j. omega (arith, at-first .shared-slice-known .given j)) (at-node .node .ensures)
-    (none-counts (nodeIn (a .m) (a .nodes .now) (a .c .0)) (a .known .reachable) (c .if1 .left)) g
+    (none-counts (nodeIn (a .m) (a .nodes .now) (a .c .0)) (c .if1 .left)) (sym (add-zero (a .known .reachable))) g
 
 pub further-spec : {M : Type 1} → statement M
 further-spec =

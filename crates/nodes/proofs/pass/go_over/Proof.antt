@@ -59,8 +59,15 @@ is-clean-requires c κs = search needs
 
 returns-2 : tie.Need-returns-2 Inv-loop μ-loop
 returns-2 c =
-    let at-loop = c .before .before in
-    ends {i = at-loop .loop .i} (omega arith) (at-loop .loop .inv .1) (c .is-clean .ensures)
+    let at-is-clean = c .before in
+    let at-loop = at-is-clean .before .before .before in
+    ends {i = at-loop .loop .i} (omega arith) (at-loop .loop .inv .1) (at-is-clean .is-clean .ensures) (rw (c .if2 .taken))
+
+returns-3 : tie.Need-returns-3 Inv-loop μ-loop
+returns-3 c =
+    let at-is-clean = c .before in
+    let at-loop = at-is-clean .before .before .before in
+    ends {i = at-loop .loop .i} (omega arith) (at-loop .loop .inv .1) (at-is-clean .is-clean .ensures) (rw (c .if2 .left))
 
 pub go-over-spec : {M : Type 1} → statement M
 go-over-spec =
@@ -78,4 +85,5 @@ go-over-spec =
     loop-less
     loop-again
     is-clean-requires
-    returns-2)
+    returns-2
+    returns-3)
