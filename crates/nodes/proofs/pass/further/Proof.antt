@@ -23,18 +23,22 @@ wide-requires c κs = search needs
 mul-reachable : tie.Need-mul-reachable
 mul-reachable c = search needs
 
+-- the place in the table of what the node counts for is a state
+few : (c : tie.After-wide) → c .wide .result ≤ Retired
+few c =
+    let at-state-of = c .before in
+    let start = at-state-of .before .before .before .before .before .before in
+    omega (arith, c .wide .ensures .0, at-state-of .state-of .ensures, start .pre .0 .2)
+
 shared-slice-read-reachable : tie.Need-shared-slice-read-reachable
 shared-slice-read-reachable c =
     let start = c .before .before .before .before .before .before .before .before in
-    search (needs, ap length (start .pre .1 .1))
+    search (needs, few (c .before), ap length (start .pre .1 .1))
 
 add-reachable : tie.Need-add-reachable
 add-reachable c =
-    let at-wide = c .before in
-    let at-state-of = at-wide .before in
-    let start = at-state-of .before .before .before .before .before .before in
-    let few : at-wide .wide .result ≤ Retired = omega (arith, at-wide .wide .ensures .0, at-state-of .state-of .ensures, start .pre .0 .2) in
-    search (needs, light (at-wide .wide .result) (start .pre .1 .1) few)
+    let start = c .before .before .before .before .before .before .before .before in
+    search (needs, light (c .before .wide .result) (start .pre .1 .1) (few (c .before)))
 
 returns : tie.Need-returns
 returns c x g =
