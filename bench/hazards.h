@@ -12,6 +12,13 @@ static bool has_assigned(uint32_t *w, uint32_t p) {
     return false;
 }
 
+/* What the process x sees in each of its own hazards: the node of the last pending store to it, or else the visible one. */
+static void own_nodes(const uint32_t *x, uint32_t k, uint32_t *nodes) {
+    const uint32_t *hazards = x + PROCESS, *s = hazards + HAZARD * k;
+    for (uint32_t h = 0; h < k; h++) nodes[h] = hazards[HAZARD * h + VISIBLE];
+    for (uint32_t i = 0; i < x[PENDING]; i++, s += STORE) nodes[s[STORE_HAZARD]] = s[STORE_NODE];
+}
+
 static void add_store(uint32_t *w, uint32_t p, uint32_t h, uint32_t stored) {
     uint32_t *x = process_at(w, p);
     uint32_t *s = stores_of(w, p) + STORE * x[PENDING]++;

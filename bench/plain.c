@@ -8,6 +8,7 @@
 #include "leave.h"
 #include "nodes.h"
 #include "retire.h"
+#include "why.h"
 #include "words.h"
 
 #include <string.h>
@@ -62,7 +63,8 @@ qsense_answer plain_step(uint32_t *words, size_t len, uint32_t kind, uint32_t pr
     return step_known(words, kind, process, hazard, node, guest);
 }
 
-bool plain_well_formed(const uint32_t *words, size_t len) {
+/* Not inlined: else plain_why would call the check that counts, which takes longer. */
+__attribute__((noinline)) bool plain_well_formed(const uint32_t *words, size_t len) {
     return well_formed(words, len);
 }
 
@@ -77,6 +79,11 @@ qsense_answer plain_reachable_in_two(const uint32_t *words, size_t len) {
     uint32_t count = 0;
     for (uint32_t c = 0; c < words[M]; c++, x += NODE) count += x[STATE] == REACHABLE;
     return accepted(count);
+}
+
+qsense_why_answer plain_why(const uint32_t *words, size_t len, uint32_t node) {
+    if (!plain_well_formed(words, len)) return (qsense_why_answer){.refusal = 3};
+    return why(words, len, node);
 }
 
 static bool fit(size_t steps_len, size_t answers_len) {

@@ -2,6 +2,7 @@
 #ifndef RETIRE_H
 #define RETIRE_H
 
+#include "hazards.h"
 #include "words.h"
 
 #include <string.h>
@@ -19,12 +20,9 @@ static uint32_t retired_by(uint32_t *w, uint32_t p) {
     return count;
 }
 
-/* What process p sees in its own hazards: the node of the last pending store to each, or else the visible one. */
 static void mark_own(uint32_t *w, uint32_t p, bool *seen) {
     uint32_t nodes[MAX_HAZARDS];
-    for (uint32_t h = 0; h < w[K]; h++) nodes[h] = hazard_at(w, p, h)[VISIBLE];
-    const uint32_t *s = stores_of(w, p);
-    for (uint32_t i = 0; i < process_at(w, p)[PENDING]; i++) nodes[s[STORE * i + STORE_HAZARD]] = s[STORE * i + STORE_NODE];
+    own_nodes(process_at(w, p), w[K], nodes);
     for (uint32_t h = 0; h < w[K]; h++) seen[nodes[h]] = true;
 }
 

@@ -20,6 +20,10 @@ qsense_answer qsense_reachable(const uint32_t *words, size_t len) {
     return plain_reachable(words, len);
 }
 
+qsense_why_answer qsense_why(const uint32_t *words, size_t len, uint32_t node) {
+    return plain_why(words, len, node);
+}
+
 bool qsense_run(uint32_t *words, size_t len, const uint32_t *steps, size_t steps_len, uint32_t *answers, size_t answers_len) {
     return plain_run(words, len, steps, steps_len, answers, answers_len);
 }

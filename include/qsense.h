@@ -90,6 +90,37 @@ qsense_answer qsense_step(uint32_t *words, size_t len, uint32_t kind, uint32_t p
  *   3  the words are not a well-formed domain */
 qsense_answer qsense_reachable(const uint32_t *words, size_t len);
 
+/* Why a node is still waiting. A number that is not said to be anything is 0.
+ *   refusal         0, or 3 or 7
+ *   answer          the first that is true of the node:
+ *                     1  it is not Retired
+ *                     2  it is too young: retired at most T + E ticks ago
+ *                     3  it is visible: its owner sees it in a hazard, as a scan by it would
+ *                     4  it is ready: a scan by its owner would free it now
+ *   state           answer 1: its state, 0 Free, 1 Allocated, 2 Reachable, 3 Removed
+ *   ticks           answer 2: how much older it must be for a scan to free it, whether the clock can come to that or not
+ *   process         answer 3: the lowest process with such a hazard
+ *   hazard          answer 3: the lowest such hazard of that process
+ *   behind          on the fast path 2 where a present process is at another epoch than the global one, 1 where none is; 0 on the
+ *                   fallback path, where it is not asked
+ *   behind_process  behind 2: the lowest such process */
+typedef struct {
+    uint32_t refusal;
+    uint32_t answer;
+    uint32_t state;
+    uint32_t ticks;
+    uint32_t process;
+    uint32_t hazard;
+    uint32_t behind;
+    uint32_t behind_process;
+} qsense_why_answer;
+
+/* Says why a node is still waiting. The owner may be present or absent. It changes no word. Refused at the first no, in this order, with
+ * every other number 0:
+ *   3  the words are a well-formed domain
+ *   7  the node is below M */
+qsense_why_answer qsense_why(const uint32_t *words, size_t len, uint32_t node);
+
 /* Takes a list of steps, five words each in the order of qsense_step, and writes an answer for each, two words each: refusal, value.
  * Answers and words are those of qsense_step called for one after another, with its numbers; the words are checked once.
  * It returns true, also for an empty list. Where steps_len is not 5 * j with answers_len = 2 * j for some j, it returns false and

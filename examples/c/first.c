@@ -1,4 +1,4 @@
-/* One process publishes a node, another claims and uses it. */
+/* One process publishes a node, another claims and uses it; then the first retires it and asks why it waits. */
 #include "qsense.h"
 #include <stdio.h>
 
@@ -14,5 +14,13 @@ int main(void) {
     qsense_answer twice = qsense_step(words, len, 1, 1, 0, 0, 71); /* node 0 is not Free */
     qsense_answer reachable = qsense_reachable(words, len);
     printf("made %u, guest %u, refused %u, reachable %u\n", made.refusal, used.value, twice.refusal, reachable.value);
+    qsense_step(words, len, 10, 1, 0, 0, 0);                       /* process 1 flushes its store: the hazard is visible */
+    qsense_step(words, len, 7, 0, 0, 0, 0);                        /* process 0 removes node 0 */
+    qsense_step(words, len, 8, 0, 0, 0, 0);                        /* and retires it */
+    qsense_why_answer young = qsense_why(words, len, 0);           /* 2: too young to be freed */
+    for (uint32_t i = 0; i < young.ticks; i++) qsense_step(words, len, 11, 0, 0, 0, 0);
+    qsense_why_answer seen = qsense_why(words, len, 0);            /* 3: old enough, and visible in a hazard */
+    printf("why %u, %u ticks; ", young.answer, young.ticks);
+    printf("then why %u, process %u, hazard %u\n", seen.answer, seen.process, seen.hazard);
     return 0;
 }

@@ -67,6 +67,32 @@ fn step(bytes: &[u8]) -> Step {
     Step { kind, process, hazard, node: word(bytes, 4), guest: word(bytes, 8) }
 }
 
+/// The first so many steps of a book, as a book.
+pub fn cut(bytes: &[u8], count: usize) -> Result<Vec<u8>, u32> {
+    let (params, steps) = read(bytes)?;
+    Ok(write(params, &steps[..count], 0))
+}
+
+/// The model after a book's last step, or the number of the book's refusal.
+pub fn end(bytes: &[u8]) -> Result<Model, u32> {
+    let (params, steps) = read(bytes)?;
+    let mut model = Model::fresh(params, Rules::default());
+    for step in steps {
+        model.step(step);
+    }
+    Ok(model)
+}
+
+/// The words after a book's last step by the library's calls.
+pub fn end_by_calls(calls: &Calls, bytes: &[u8]) -> Result<Vec<u32>, u32> {
+    let (params, steps) = read(bytes)?;
+    let mut desk = made(calls, params);
+    for step in steps {
+        desk.take(step);
+    }
+    Ok(desk.words)
+}
+
 /// What takes the steps of a book.
 trait Desk {
     /// The answer, and the panel after it.
@@ -107,11 +133,13 @@ pub fn print(bytes: &[u8]) -> String {
 
 /// The same by the library's calls.
 pub fn print_by_calls(calls: &Calls, bytes: &[u8]) -> String {
-    print_by(bytes, |params| {
-        let mut words = vec![0; word_count(params)];
-        calls.make(&mut words, params);
-        Words { calls, words }
-    })
+    print_by(bytes, |params| made(calls, params))
+}
+
+fn made(calls: &Calls, params: Params) -> Words<'_> {
+    let mut words = vec![0; word_count(params)];
+    calls.make(&mut words, params);
+    Words { calls, words }
 }
 
 fn print_by<D: Desk>(bytes: &[u8], fresh: impl Fn(Params) -> D) -> String {

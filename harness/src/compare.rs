@@ -1,15 +1,17 @@
 //! The library beside the model: every answer and every word, on a run or on any words.
 
 use crate::coverage::Coverage;
-use crate::layout::{node_start, process_start, process_width, word_count, HEAD, NODE};
+use crate::layout::{node_start, process_start, process_width, word_count, HEAD, NODE, NODES};
 use crate::library::{Calls, Lent};
 use crate::model::domain::Domain;
 use crate::model::mistake::Rules;
 use crate::model::panel::reachable_words;
+use crate::model::why::why_words;
 use crate::model::{step_words, words, Model};
 use crate::params::Params;
 use crate::reference::Reference;
 use crate::step::{Answer, Kind, Step};
+use crate::why::Why;
 
 /// A run of the library, of the model and, from a fresh domain, of the reference.
 pub struct Lockstep<'a> {
@@ -19,6 +21,8 @@ pub struct Lockstep<'a> {
     expected: Vec<u32>,
     /// the Reachable nodes at the start, with accepted publishes and reinserts since, less accepted removes
     panel: u32,
+    /// how many steps were taken
+    turn: u32,
     reference: Option<Reference>,
 }
 
@@ -33,6 +37,7 @@ impl<'a> Lockstep<'a> {
             lent,
             expected: Vec::new(),
             panel: 0,
+            turn: 0,
             reference: Some(Reference::new(params)),
         };
         run.agree("make", answer, Answer::accepted(0))?;
@@ -43,7 +48,7 @@ impl<'a> Lockstep<'a> {
     pub fn from(calls: &'a Calls, rules: Rules, domain: Domain) -> Lockstep<'a> {
         let (expected, panel) = (words::words_of(&domain), domain.reachable());
         let (model, lent) = (Model { rules, domain }, Lent::new(&expected));
-        Lockstep { calls, model, lent, expected, panel, reference: None }
+        Lockstep { calls, model, lent, expected, panel, turn: 0, reference: None }
     }
 
     pub fn step(&mut self, step: Step, coverage: &mut Coverage) -> Result<(), String> {
@@ -58,11 +63,36 @@ impl<'a> Lockstep<'a> {
                 return Err(format!("{call}: {}, but {} by the accepted steps", panel.value, self.panel));
             }
         }
+        self.why_some(coverage)?;
         if let Some(reference) = &mut self.reference {
             reference.follow(step, answer, self.lent.words()).map_err(|e| format!("reference: {e}"))?;
         }
         coverage.after(&self.model.domain, step, answer);
         Ok(())
+    }
+
+    /// Why a node waits, why a Retired one does, and why one that is out of range: others at each turn.
+    fn why_some(&mut self, coverage: &mut Coverage) -> Result<(), String> {
+        let (nodes, turn) = (self.model.domain.params.nodes, self.turn);
+        let mut from = (0..nodes).map(|ahead| (turn + ahead) % nodes);
+        let retired = from.find(|&id| self.model.domain.node(id).is_retired());
+        let past = [nodes, nodes + 1, u32::MAX][turn as usize % 3];
+        self.turn += 1;
+        self.why([turn % nodes, past].into_iter().chain(retired), coverage)
+    }
+
+    /// Why every node waits.
+    pub fn why_all(&self, coverage: &mut Coverage) -> Result<(), String> {
+        self.why(0..self.model.domain.params.nodes, coverage)
+    }
+
+    fn why(&self, nodes: impl Iterator<Item = u32>, coverage: &mut Coverage) -> Result<(), String> {
+        for node in nodes {
+            let why = self.model.why(node);
+            same_why(self.calls, &self.lent, node, why)?;
+            coverage.told(&self.model.domain, node, why);
+        }
+        unchanged("why", &self.lent, &self.expected)
     }
 
     fn agree(&mut self, call: &str, answer: Answer, expected: Answer) -> Result<(), String> {
@@ -80,7 +110,15 @@ pub fn counted(panel: u32, step: Step, answer: Answer) -> u32 {
     }
 }
 
-/// One step, and the reachable counts and the check before it, on any words.
+/// Whether the call says why a node waits as it was expected.
+pub fn same_why(calls: &Calls, lent: &Lent, node: u32, expected: Why) -> Result<(), String> {
+    match (calls.why(lent.words(), node), expected.answer()) {
+        (found, expected) if found == expected => Ok(()),
+        (found, expected) => Err(format!("why node {node}: {found}, expected {expected}")),
+    }
+}
+
+/// One step, and before it the reachable counts, the check, and why some nodes wait, the last and those past it among them: on any words.
 pub fn on_words(calls: &Calls, rules: Rules, start: &[u32], step: Step) -> Result<Answer, String> {
     let mut lent = Lent::new(start);
     let (mut expected, expected_panel) = (start.to_vec(), reachable_words(start, rules));
@@ -91,6 +129,12 @@ pub fn on_words(calls: &Calls, rules: Rules, start: &[u32], step: Step) -> Resul
     if well_formed != expected_well {
         return Err(format!("well formed: {well_formed}, expected {expected_well}"));
     }
+    let m = start.get(NODES).copied().unwrap_or(0);
+    let nodes = [step.node, m.wrapping_sub(1), m, m.wrapping_add(1), u32::MAX];
+    for (node, why) in nodes.into_iter().zip(why_words(start, nodes, rules)) {
+        same_why(calls, &lent, node, why)?;
+    }
+    unchanged("why", &lent, start)?;
     let expected_answer = step_words(&mut expected, step, rules);
     let answer = calls.step(lent.words_mut(), step);
     same("step", answer, &lent, expected_answer, &expected)?;
@@ -102,6 +146,11 @@ pub fn same(call: &str, answer: Answer, lent: &Lent, expected_answer: Answer, ex
     if answer != expected_answer {
         return Err(format!("{call}: {answer}, expected {expected_answer}"));
     }
+    unchanged(call, lent, expected)
+}
+
+/// Whether a call left these words, and nothing else.
+pub fn unchanged(call: &str, lent: &Lent, expected: &[u32]) -> Result<(), String> {
     if lent.words() != expected {
         let at = lent.words().iter().zip(expected).position(|(x, y)| x != y).expect("a word that differs");
         let (word, right) = (lent.words()[at], expected[at]);

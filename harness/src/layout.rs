@@ -4,6 +4,8 @@ use crate::params::Params;
 
 /// The parameters, the clock, the path, the global epoch.
 pub const HEAD: usize = Params::COUNT + 3;
+/// M
+pub const NODES: usize = 2;
 pub const CLOCK: usize = Params::COUNT;
 pub const PATH: usize = Params::COUNT + 1;
 /// A process before its hazards: local epoch, calls, presence, how many stores are pending, present.

@@ -2,11 +2,13 @@
 
 use crate::params::Params;
 use crate::step::{Answer, Kind, Step};
+use crate::why::WhyAnswer;
 
 type Length = unsafe extern "C" fn(u32, u32, u32) -> u32;
 type Make = unsafe extern "C" fn(*mut u32, usize, u32, u32, u32, u32, u32, u32, u32) -> Answer;
 type StepCall = unsafe extern "C" fn(*mut u32, usize, u32, u32, u32, u32, u32) -> Answer;
 type Reachable = unsafe extern "C" fn(*const u32, usize) -> Answer;
+type Why = unsafe extern "C" fn(*const u32, usize, u32) -> WhyAnswer;
 type WellFormed = unsafe extern "C" fn(*const u32, usize) -> bool;
 type Run = unsafe extern "C" fn(*mut u32, usize, *const u32, usize, *mut u32, usize) -> bool;
 
@@ -16,6 +18,7 @@ extern "C" {
     fn qsense_make(w: *mut u32, len: usize, n: u32, k: u32, m: u32, t: u32, q: u32, c: u32, e: u32) -> Answer;
     fn qsense_step(w: *mut u32, len: usize, kind: u32, process: u32, hazard: u32, node: u32, guest: u32) -> Answer;
     fn qsense_reachable(w: *const u32, len: usize) -> Answer;
+    fn qsense_why(w: *const u32, len: usize, node: u32) -> WhyAnswer;
     fn qsense_run(w: *mut u32, len: usize, s: *const u32, s_len: usize, a: *mut u32, a_len: usize) -> bool;
     fn bench_reachable_in_two(w: *const u32, len: usize) -> Answer;
     fn bench_well_formed(w: *const u32, len: usize) -> bool;
@@ -25,6 +28,7 @@ extern "C" {
     fn plain_reachable(w: *const u32, len: usize) -> Answer;
     fn plain_reachable_in_two(w: *const u32, len: usize) -> Answer;
     fn plain_well_formed(w: *const u32, len: usize) -> bool;
+    fn plain_why(w: *const u32, len: usize, node: u32) -> WhyAnswer;
     fn plain_run(w: *mut u32, len: usize, s: *const u32, s_len: usize, a: *mut u32, a_len: usize) -> bool;
     fn plain_run_trusting(w: *mut u32, len: usize, s: *const u32, s_len: usize, a: *mut u32, a_len: usize) -> bool;
 }
@@ -37,6 +41,7 @@ pub struct Calls {
     /// the same by a check of all words and then a count
     reachable_in_two: Reachable,
     well_formed: WellFormed,
+    why: Why,
     run: Run,
 }
 
@@ -47,6 +52,7 @@ pub static QSENSE: Calls = Calls {
     reachable: qsense_reachable,
     reachable_in_two: bench_reachable_in_two,
     well_formed: bench_well_formed,
+    why: qsense_why,
     run: qsense_run,
 };
 
@@ -57,6 +63,7 @@ pub static PLAIN: Calls = Calls {
     reachable: plain_reachable,
     reachable_in_two: plain_reachable_in_two,
     well_formed: plain_well_formed,
+    why: plain_why,
     run: plain_run,
 };
 
@@ -90,6 +97,10 @@ impl Calls {
         unsafe { (self.well_formed)(words.as_ptr(), words.len()) }
     }
 
+    pub fn why(&self, words: &[u32], node: u32) -> WhyAnswer {
+        unsafe { (self.why)(words.as_ptr(), words.len(), node) }
+    }
+
     /// The same calls, but that reachable goes in two passes.
     pub fn in_two(&self) -> Calls {
         Calls { reachable: self.reachable_in_two, ..*self }
@@ -105,16 +116,16 @@ impl Calls {
         unsafe { (self.run)(words.as_mut_ptr(), words.len(), s, steps.len(), a, answers.len()) }
     }
 
-    /// Each call on a null pointer with length 0: the answers of make, step and reachable, in one pass and in two, and whether an empty
-    /// run was taken.
-    pub fn on_nothing(&self) -> ([Answer; 4], bool) {
+    /// Each call on a null pointer with length 0: the answers of make, step and reachable, in one pass and in two, that of why, and
+    /// whether an empty run was taken.
+    pub fn on_nothing(&self) -> ([Answer; 4], WhyAnswer, bool) {
         let (none, no) = (std::ptr::null_mut(), std::ptr::null());
         unsafe {
             let [n, k, m, t, q, c, e] = Params::LEAST.numbers();
             let made = (self.make)(none, 0, n, k, m, t, q, c, e);
             let stepped = (self.step)(none, 0, Kind::ClearPresence as u32, 0, 0, 0, 0);
             let answers = [made, stepped, (self.reachable)(no, 0), (self.reachable_in_two)(no, 0)];
-            (answers, (self.run)(none, 0, no, 0, none, 0))
+            (answers, (self.why)(no, 0, 0), (self.run)(none, 0, no, 0, none, 0))
         }
     }
 }

@@ -1,24 +1,47 @@
-//! harness test [--desk PATH] [--without-desk] [--examples FOLDER] [--seed N] [--steps N]
+//! harness test [--desk PATH] [--without-desk] [--why PATH] [--without-why] [--examples FOLDER] [--seed N] [--steps N]
 //! harness soak SECONDS [--seed N]
-//! Compares the library with the model, and what the program `desk` prints (at target/bin/desk, where PATH is not given) with what the
-//! model prints. --without-desk leaves the program out, but only where it is not there. The seed may also stand in the variable SEED.
-//! The last line is 'N passed, M failed'.
+//! Compares the library with the model, and what the programs `desk` and `why` print (at target/bin, where PATH is not given) with what
+//! the model prints. --without-desk and --without-why leave a program out, but only where it is not there. The seed may also stand in the
+//! variable SEED. The last line is 'N passed, M failed'.
 
 use harness::coverage::Coverage;
 use harness::library::{PLAIN, QSENSE};
 use harness::model::mistake::Rules;
 use harness::report::Report;
-use harness::tests::{books, edges, examples, late, leaving, make, malformed, mistakes, panel, runs, schedules};
+use harness::tests::{
+    books, edges, examples, late, leaving, make, malformed, mistakes, panel, runs, schedules, why, why_lines,
+};
 use std::path::PathBuf;
 use std::process::ExitCode;
 use std::time::{Duration, Instant, SystemTime, UNIX_EPOCH};
+
+struct Program {
+    path: PathBuf,
+    /// left out where it is not there
+    without: bool,
+}
+
+impl Program {
+    fn at(path: &str) -> Program {
+        Program { path: path.into(), without: false }
+    }
+
+    /// Whether it is to be tried; if it is left out, that is said.
+    fn is_tried(&self, with: &str) -> bool {
+        let left_out = self.without && !self.path.exists();
+        if left_out {
+            println!("left out: {with} through {}", self.path.display());
+        }
+        !left_out
+    }
+}
 
 struct Options {
     soak: Option<u64>,
     seed: Option<u64>,
     steps: u64,
-    desk: PathBuf,
-    without_desk: bool,
+    desk: Program,
+    why: Program,
     examples: PathBuf,
 }
 
@@ -43,8 +66,8 @@ fn options() -> Result<Options, String> {
         soak: None,
         seed,
         steps: 3_000_000,
-        desk: "target/bin/desk".into(),
-        without_desk: false,
+        desk: Program::at("target/bin/desk"),
+        why: Program::at("target/bin/why"),
         examples: "examples".into(),
     };
     match words.next().as_deref() {
@@ -56,8 +79,10 @@ fn options() -> Result<Options, String> {
         match word.as_str() {
             "--seed" => options.seed = Some(number("--seed", words.next())?),
             "--steps" => options.steps = number("--steps", words.next())?,
-            "--desk" => options.desk = words.next().ok_or("--desk needs a path")?.into(),
-            "--without-desk" => options.without_desk = true,
+            "--desk" => options.desk.path = words.next().ok_or("--desk needs a path")?.into(),
+            "--without-desk" => options.desk.without = true,
+            "--why" => options.why.path = words.next().ok_or("--why needs a path")?.into(),
+            "--without-why" => options.why.without = true,
             "--examples" => options.examples = words.next().ok_or("--examples needs a folder")?.into(),
             other => return Err(format!("unknown word {other}")),
         }
@@ -84,6 +109,7 @@ fn test(options: &Options) -> ExitCode {
     report.test("slices short, long and empty", || malformed::lengths(&QSENSE, Rules::default(), seed, &mut coverage));
     report.test("no words at all", || malformed::nothing(&QSENSE));
     panel::all(&mut report, &QSENSE, seed);
+    why::all(&mut report, &QSENSE, seed);
     report.test("every count met", || schedules::covered(&coverage, options.steps / 6_000));
     report.test("run as steps one by one", || runs::one_by_one(&QSENSE, seed, 3_000));
     report.test("run with lengths that do not fit", || runs::wrong_lengths(&QSENSE, seed));
@@ -92,10 +118,11 @@ fn test(options: &Options) -> ExitCode {
         schedules::fresh(&PLAIN, seed, 100_000, &mut Coverage::default())
     });
     examples::all(&mut report, &QSENSE, &options.examples);
-    if options.without_desk && !options.desk.exists() {
-        println!("left out: books through {}", options.desk.display());
-    } else {
-        books::all(&mut report, &options.desk, &options.examples, seed);
+    if options.desk.is_tried("books") {
+        books::all(&mut report, &options.desk.path, &options.examples, seed);
+    }
+    if options.why.is_tried("books and words") {
+        why_lines::all(&mut report, &options.why.path, seed);
     }
     report.finish()
 }

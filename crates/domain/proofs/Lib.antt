@@ -6,3 +6,4 @@ pub mod Lent
 pub mod Assigned
 pub mod Passing
 pub mod Clearing
+pub mod Seeking

@@ -5,6 +5,7 @@ ghost use Rattle.lists.specs.Tests.{every};
 ghost use Rattle.model.specs.State.{clearPresence};
 ghost use Rattle.model.specs.Hazards.{young};
 ghost use Rattle.model.specs.Epochs.{caughtUp, allCheckedIn};
+ghost use Rattle.model.specs.Why.{laggard};
 ghost use Rattle.layout.specs.Encode.{decode};
 ghost use Rattle.layout.specs.Sound.{Sound};
 ghost use Rattle.domain.specs.Effects.{changed};
@@ -42,6 +43,24 @@ pub fn caught_up(words: &[u32]) -> bool
         q += 1;
     }
     true
+}
+
+// The lowest present process whose local epoch differs from the global one; N where there is none.
+pub fn laggard(words: &[u32]) -> u32
+    requires { ⌜ Sound (now words) ⌝ }
+    ensures { λ r. ⌜ r ≡ laggard (decode (now (words .entry))) ⌝ }
+{
+    let n = crate::bounds(words).processes;
+    let epoch = crate::epoch(words);
+    let mut p: u32 = 0;
+    while p < n {
+        let l = crate::process::lead(words, ProcessId(p));
+        if (l.present == 1) & (l.epoch != epoch) {
+            return p;
+        }
+        p += 1;
+    }
+    n
 }
 
 // Have all processes that are present checked in: is each of their presence words 1?

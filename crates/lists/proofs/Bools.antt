@@ -46,3 +46,9 @@ pub not-alone : (a b : Bool) → (b ≡ true → a ≡ true) → (not a && b) �
 not-alone true b f = refl
 not-alone false true f = absurd (false≢true (f refl))
 not-alone false false f = refl
+
+-- two tests of which each holds where the other does
+pub agree : (a b : Bool) → (a ≡ true → b ≡ true) → (b ≡ true → a ≡ true) → a ≡ b
+agree true b h k = sym (h refl)
+agree false true h k = k refl
+agree false false h k = refl

@@ -21,6 +21,10 @@ module _ {A : Type 0} (f : A → Bool) where
   every-in (x ∷ xs) zero a h k = both (f x) (every f xs) h .0
   every-in (x ∷ xs) (suc i) a h k = every-in xs i a (both (f x) (every f xs) h .1) (omega arith)
 
+  pub every-of : (l : List A) (a : A) → ((i : ℕ) → i < length l → f (getD l i a) ≡ true) → every f l ≡ true
+  every-of [] a h = refl
+  every-of (x ∷ xs) a h = rw (h 0 (omega arith), every-of xs a (λ i l. h (suc i) (omega arith)))
+
   pub every-append : (a b : List A) → every f (a ++ b) ≡ true → (every f a ≡ true) × (every f b ≡ true)
   every-append [] b h = (refl, h)
   every-append (x ∷ xs) b h =

@@ -15,3 +15,4 @@ pub mod Compares
 pub mod Agree
 pub mod Mapped
 pub mod UptoParts
+pub mod First

@@ -28,6 +28,11 @@ abbrev pub countFrom : {A : Type 0} → (ℕ → A → Bool) → ℕ → List A 
 countFrom f i [] = 0
 countFrom f i (x ∷ xs) = cond (f i x) 1 0 + countFrom f (suc i) xs
 
+-- the place of the first that passes, each with its place, the first being i; the place after the last where none does
+abbrev pub firstFrom : {A : Type 0} → (ℕ → A → Bool) → ℕ → List A → ℕ
+firstFrom f i [] = i
+firstFrom f i (x ∷ xs) = cond (f i x) i (firstFrom f (suc i) xs)
+
 -- a fact of every element
 abbrev pub All : {A : Type 0} → (A → Type 0) → List A → Type 0
 All P [] = Unit {0}

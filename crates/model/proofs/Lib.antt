@@ -22,4 +22,5 @@ pub mod Image
 pub mod Simulation
 pub mod Bound
 pub mod Demand3
+pub mod Why
 pub mod Theorems

@@ -2,7 +2,7 @@
 use Rattle.model.specs.Claims.{RefusedUnchanged, UnreadFields, FreshWellFormed, StepWellFormed, PanelStep}
 use Rattle.model.specs.Claims.{Panel}
 use Rattle.model.specs.Claims.{RemoveTakenBack, FreedAreCounted, Demand3, LatenessIsDelay, LatenessInBound}
-use Rattle.model.specs.Claims.{NoLateness}
+use Rattle.model.specs.Claims.{NoLateness, WhyIsExact}
 use Rattle.model.proofs.Unread as Unread
 use Rattle.model.proofs.WellFormed as WellFormed
 use Rattle.model.proofs.Panel as Counted
@@ -10,6 +10,7 @@ use Rattle.model.proofs.TakenBack as TakenBack
 use Rattle.model.proofs.Freed as Freed
 use Rattle.model.proofs.Lateness as Lateness
 use Rattle.model.proofs.Demand3 as Follow
+use Rattle.model.proofs.Why as Waiting
 
 pub refused-unchanged : RefusedUnchanged
 refused-unchanged = Unread.refused-unchanged
@@ -46,3 +47,6 @@ lateness-in-bound = Lateness.lateness-in-bound
 
 pub no-lateness : NoLateness
 no-lateness = Lateness.no-lateness
+
+pub why-is-exact : WhyIsExact
+why-is-exact = Waiting.why-is-exact

@@ -33,7 +33,7 @@ pub own-length : (b : List Pending) (h : ℕ) (hs : List Hazard) → length (own
 own-length b h [] = refl
 own-length b h (y ∷ ys) = ap suc (own-length b (suc h) ys)
 
-visible-length : (own : Bool) (x : Process) → length (visibleIn own x) ≡ length (x .hazards)
+pub visible-length : (own : Bool) (x : Process) → length (visibleIn own x) ≡ length (x .hazards)
 visible-length true x = own-length (x .buffer) 0 (x .hazards)
 visible-length false x = length-map (x .hazards) _
 

@@ -1,17 +1,19 @@
--- What is promised of the rules: demands 2 and 3, well-formedness, refusals, fields that are not read, and what E is. Statements only; the
--- theorems of these types stand in proofs/Theorems.antt. Assumes nothing.
-use Prim.Native.Nat.{ℕ, _+_, _-_, _*_, _<_, _≤_, max}
+-- What is promised of the rules: demands 2 and 3, well-formedness, refusals, fields that are not read, what E is, and why a node waits.
+-- Statements only; the theorems of these types stand in proofs/Theorems.antt. Assumes nothing.
+use Prim.Native.Nat.{ℕ, suc, _+_, _-_, _*_, _<_, _≤_, max}
 use mathlib.Core.Path.{_≡_}
-use mathlib.Core.Logic.{_≢_}
-use mathlib.Core.Bool.{Bool, true, not, _&&_, _||_, cond}
+use mathlib.Core.Logic.{_≢_, _↔_}
+use mathlib.Core.Bool.{Bool, true, false, not, _&&_, _||_, cond}
 use mathlib.Core.List.{List, [], _∷_, _++_}
 use lib.ListN.{length, replicate}
 use lib.Dec.{leb, eqb}
 use Rattle.lists.specs.Tests.{every, count, countFrom}
 use Rattle.model.specs.Params.{Params, InRange, delay}
-use Rattle.model.specs.State.{Domain, Step, Free, Reachable, nodeOf, processOf, hazardOf, withParams}
+use Rattle.model.specs.State.{Node, Domain, Step, Free, Reachable, Retired, Fast, Fallback, nodeOf, processOf, hazardOf, withParams}
 use Rattle.model.specs.WellFormed.{WellFormed}
 use Rattle.model.specs.Kinds.{Meaning, means, rowOf, kindOf, Unread}
+use Rattle.model.specs.Retire.{ageOf, oldEnough, aged, scan}
+use Rattle.model.specs.Why.{Reason, NotRetired, Young, Visible, Ready, Behind, NotAsked, Nobody, Lagging, Why, shownAt, why}
 use Rattle.model.specs.Machine.{Outcome, step, run, fresh}
 use Rattle.model.specs.Reference.{Cell, Reference, Command, initial, cellAt, rowAt, pointerAt, asks}
 use Rattle.model.specs.Reference.{follow, valueOf, freeEach, EachFreeable}
@@ -227,3 +229,50 @@ LatenessInBound = (a : Params) (h : History) (p : ℕ) → bound (merged a) h p 
 -- so with E = 0 the one age is T, and every answer is that of the rules without E
 abbrev pub NoLateness : Type 0
 NoLateness = (a : Params) → a .lateness ≡ 0 → delay a ≡ a .visibilityBound
+
+-- ---- Why a node waits
+
+-- a scan by process p now would free node c
+pub record Frees (d : Domain) (p c : ℕ) : Type 0 where
+  pub before : nodeOf d c .state ≢ Free
+  pub after : nodeOf (scan d p .after) c .state ≡ Free
+
+-- an age t ticks higher is old enough, and one t - 1 higher is not: whether the clock can come to it or not
+pub record TooYoung (d : Domain) (n : Node) (t : ℕ) : Type 0 where
+  pub some : 1 ≤ t
+  pub enough : oldEnough (d .params) (ageOf d n + t) ≡ true
+  pub short : oldEnough (d .params) (ageOf d n + (t - 1)) ≡ false
+
+-- hazard h of process q shows v to process p, and no hazard of a lower process does, nor a lower one of this
+pub record LowestShowing (d : Domain) (p v q h : ℕ) : Type 0 where
+  pub process : q < d .params .processes
+  pub hazard : h < d .params .hazards
+  pub shown : shownAt d p q h ≡ v
+  pub lower : (q' h' : ℕ) → q' < q → shownAt d p q' h' ≢ v
+  pub left : (h' : ℕ) → h' < h → shownAt d p q h' ≢ v
+
+-- what an answer on node c, which is n, says, and that none before it is true
+abbrev pub FirstTrue : Domain → ℕ → Node → Reason → Type 0
+FirstTrue d c n (NotRetired s) = (s ≡ n .state) × (s ≢ Retired)
+FirstTrue d c n (Young t) = (n .state ≡ Retired) × TooYoung d n t
+FirstTrue d c n (Visible q h) = (n .state ≡ Retired) × (aged d n ≡ true) × LowestShowing d (n .owner) (suc c) q h
+FirstTrue d c n Ready = (n .state ≡ Retired) × (aged d n ≡ true) × ((q h : ℕ) → shownAt d (n .owner) q h ≢ suc c)
+
+-- process q is at the global epoch, if it is present
+abbrev pub KeepsUp : Domain → ℕ → Type 0
+KeepsUp d q = processOf d q .present ≡ 1 → processOf d q .epoch ≡ d .epoch
+
+abbrev pub LowestBehind : Domain → Behind → Type 0
+LowestBehind d NotAsked = d .path ≡ Fallback
+LowestBehind d Nobody = (d .path ≡ Fast) × ((q : ℕ) → KeepsUp d q)
+LowestBehind d (Lagging q) =
+    (d .path ≡ Fast) × (processOf d q .present ≡ 1) × (processOf d q .epoch ≢ d .epoch) × ((q' : ℕ) → q' < q → KeepsUp d q')
+
+pub record Exact (d : Domain) (c : ℕ) (w : Why) : Type 0 where
+  pub first : FirstTrue d c (nodeOf d c) (w .reason)
+  pub ready : (w .reason ≡ Ready) ↔ Frees d (nodeOf d c .owner) c
+  pub behind : LowestBehind d (w .behind)
+
+-- whoever its owner is, absent or not
+abbrev pub WhyIsExact : Type 0
+WhyIsExact = (d : Domain) (c : ℕ) → WellFormed d → Exact d c (why d c)

@@ -8,6 +8,7 @@ pub mod Epochs
 pub mod Leave
 pub mod Questions
 pub mod Machine
+pub mod Why
 pub mod Reference
 pub mod Claims
 pub mod Cases

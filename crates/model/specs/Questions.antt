@@ -29,6 +29,10 @@ firstNo (q ∷ qs) = cond (q .yes') (firstNo qs) (q .number)
 abbrev pub presentFor : Kind → ℕ
 presentFor k = cond (is k Join) 0 1
 
+-- 7, which is asked before a step and when a call asks of a node
+abbrev pub nodeInRange : Domain → ℕ → Bool
+nodeInRange d c = ltb c (d .params .nodes)
+
 abbrev pub questions : Kind → Domain → Step → List Question
 questions k d s =
     ask 4 (not (is k Unknown))
@@ -37,7 +41,7 @@ questions k d s =
     ∷ ask 21 (implies (is k Leave) (unburdened d (s .process)))
     ∷ ask 22 (implies (is k Leave) (takesOver d (s .process) (s .node)))
     ∷ ask 6 (implies (means (rowOf k .hazard) HazardId) (ltb (s .hazard) (d .params .hazards)))
-    ∷ ask 7 (implies (means (rowOf k .node) NodeId) (ltb (s .node) (d .params .nodes)))
+    ∷ ask 7 (implies (means (rowOf k .node) NodeId) (nodeInRange d (s .node)))
     ∷ ask 8 (meets (rowOf k .needs) (nodeOf d (s .node) .state))
     ∷ ask 9 (implies (rowOf k .owns) (eqb (nodeOf d (s .node) .owner) (s .process)))
     ∷ ask 10 (implies (is k Check) (not (eqb (pointer d s .assigned) 0)))

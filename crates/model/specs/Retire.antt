@@ -5,7 +5,7 @@ use mathlib.Core.List.{List, [], _∷_, _++_, map}
 use lib.Dec.{leb, ltb, eqb}
 use Rattle.lists.specs.Tests.{count, countFrom, lacks}
 use Rattle.lists.specs.Sweep.{sweepFrom}
-use Rattle.model.specs.Params.{delay}
+use Rattle.model.specs.Params.{Params, delay}
 use Rattle.model.specs.State.{Pending, Hazard, Process, Node, Domain, Step, Retired, Fallback, nodeOf, freeNode}
 use Rattle.model.specs.State.{setNode, withNodes, withPath, clearPresence}
 use Rattle.model.specs.Hazards.{here, latest}
@@ -42,9 +42,17 @@ visibleFrom p i (x ∷ xs) = visibleIn (eqb i p) x ++ visibleFrom p (suc i) xs
 abbrev pub visibleTo : Domain → ℕ → List ℕ
 visibleTo d p = visibleFrom p 0 (d .processes)
 
+-- ticks since it was retired
+abbrev pub ageOf : Domain → Node → ℕ
+ageOf d n = d .clock - n .retiredAt
+
+-- an age of more than the delay
+abbrev pub oldEnough : Params → ℕ → Bool
+oldEnough a t = ltb (delay a) t
+
 -- retired more than the delay ago
 abbrev pub aged : Domain → Node → Bool
-aged d n = ltb (delay (d .params)) (d .clock - n .retiredAt)
+aged d n = oldEnough (d .params) (ageOf d n)
 
 -- node c may be freed by a scan of p: its own, in whichever limbo list, aged, and in no hazard as p sees it
 abbrev pub due : Domain → ℕ → ℕ → Node → Bool

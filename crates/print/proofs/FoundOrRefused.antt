@@ -4,13 +4,10 @@ use mathlib.Core.List.{List}
 use mathlib.Core.Path.{_≡_, sym, ap, _∙_}
 use native.Mathlib.Omega.{arith}
 use lib.ListN.{length}
-use Rattle.model.specs.Params.{wordCount}
-use Rattle.layout.specs.Ranges.{lengthFor, mostWords}
-use Rattle.layout.proofs.Ranges.{in-range, length-in-range, words-most}
 use Rattle.trace.specs.Widths.{leastSize, stepSize}
 use Rattle.trace.specs.Trace.{refused, given, Front, frontOf, traceOf}
 use Rattle.trace.specs.Claims.{ledFrom, traceFrom}
-use Rattle.trace.proofs.InTurn.{passed, steps-many}
+use Rattle.trace.proofs.InTurn.{steps-many}
 use Rattle.trace.proofs.Theorems.{front-leads, steps-in-turn}
 use Rattle.text.specs.Text.{Put, refusedText, refusedTextSize}
 use Rattle.text.proofs.Sizes.{ten-most}
@@ -20,13 +17,6 @@ use Rattle.replay.specs.Turn.{Replayed}
 use Rattle.print.specs.Printed.{readingText, printed, printRoom, Prints}
 
 module _ (bs : List ℕ) (f : Front) (opened : frontOf bs ≡ given f) where
-  -- as many words as its domain takes
-  pub long-is : lengthFor (f .params .processes) (f .params .hazards) (f .params .nodes) ≡ wordCount (f .params)
-  long-is = length-in-range (f .params) (passed bs f opened .range)
-
-  pub long-most : wordCount (f .params) ≤ mostWords
-  long-most = words-most (f .params) (in-range (f .params) (passed bs f opened .range))
-
   fits : f .count ≤ (length bs - leastSize) / stepSize
   fits = let (t, _, turn) = steps-in-turn bs f opened in omega (arith, turn .room)
 

@@ -1,3 +1,2 @@
 pub mod FoundOrRefused
-pub mod Refused
 pub mod AtTheEdge

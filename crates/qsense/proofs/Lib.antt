@@ -1,6 +1,7 @@
 pub mod ModelOnWords
 pub mod Made
 pub mod AtTheEdge
+pub mod WhyAtTheEdge
 pub mod Demand3OnWords
 pub mod RefusedForStores
 pub mod LatenessOnWords

@@ -16,7 +16,8 @@ use Rattle.model.specs.WellFormed.{WellFormed}
 use Rattle.model.specs.Kinds.{kindOf}
 use Rattle.model.specs.Hazards.{here, young}
 use Rattle.model.specs.Questions as Q
-use Rattle.model.specs.Questions.{ask, firstNo, questions}
+use Rattle.model.specs.Questions.{ask, firstNo, nodeInRange, questions}
+use Rattle.model.specs.Why.{Why, Refused, Told, why}
 use Rattle.model.specs.Retire.{Effect}
 use Rattle.model.specs.Machine.{Outcome, answered, act, step, run, fresh}
 use Rattle.model.specs.Reference.{initial}
@@ -34,8 +35,8 @@ use Rattle.trace.specs.Trace.{paramsOf, questioned}
 use Rattle.trace.specs.Values.{openedValue, refusalOf}
 use Rattle.trace.specs.declared.Opened.{Opened}
 use Rattle.trace.specs.declared.Opened.the-variants.{Found, TooLong, NoTrailer, OutOfRange}
-use Rattle.qsense.specs.Calls.{Reply, refusing, throughWords, makeWords, stepWords, reachableWords, runWords}
-use Rattle.qsense.specs.Demands.{short, Refuses, Declines, Demand1}
+use Rattle.qsense.specs.Calls.{Reply, refusing, throughWords, makeWords, stepWords, reachableWords, whyWords, runWords}
+use Rattle.qsense.specs.Demands.{short, Refuses, Declines, Tells, Demand1, ToldExactly, WhyIsExactWords}
 use Rattle.qsense.specs.Demands.{Demand2, RemoveTakenBackWords, FreedAreCountedWords, RefusedForStores}
 use Rattle.qsense.specs.Demands.{LatenessIsDelayWords, Demand3Words}
 use Rattle.qsense.specs.Demands.{acceptedIn, outcomeOf, FollowsWords}
@@ -76,6 +77,11 @@ reachable-refuses : (ws : List ℕ) (n : ℕ) (b : Bool)
 reachable-refuses ws n true = record { number = refl; unchanged = λ no'. absurd (no' refl) }
 reachable-refuses ws n false = record { number = refl; unchanged = λ _. refl }
 
+why-tells : (w : Why) (b r : Bool) → Tells (ask 3 b ∷ ask 7 r ∷ []) (cond b (cond r (Told w) (Refused 7)) (Refused 3))
+why-tells w true true = record { refuses = λ no'. absurd (no' refl); tells = λ _. (w, refl) }
+why-tells w true false = record { refuses = λ _. refl; tells = λ e. absurd (omega arith) }
+why-tells w false r = record { refuses = λ _. refl; tells = λ e. absurd (omega arith) }
+
 step-refuses : (ws : List ℕ) (s : Step) (b : Bool) → wellFormed ws ≡ b
     → Refuses (ask 3 b ∷ questions (kindOf (s .kind)) (decode ws) s) ws (cond b (throughWords (step (decode ws) s)) (refusing 3 ws))
 step-refuses ws s true e =
@@ -112,10 +118,11 @@ number-opened NoTrailer = refl
 number-opened OutOfRange = refl
 
 pub demand-1 : Demand1
-unfolding makeWords reachableWords stepWords traceOf frontOf questioned
+unfolding makeWords reachableWords whyWords stepWords traceOf frontOf questioned
 demand-1 = record {
   make = λ ws a. make-refuses ws (encode (fresh a)) (inRange a) (eqb (length ws) (wordCount a));
   reachable = λ ws. reachable-refuses ws (reachableCount (decode ws)) (wellFormed ws);
+  why = λ ws c. why-tells (why (decode ws) c) (wellFormed ws) (nodeInRange (decode ws) c);
   step = λ ws s. step-refuses ws s (wellFormed ws) refl;
   trace = λ bs. trace-declines (traceAt bs) (short bs) (trailerRight bs) (inRange (paramsOf bs));
   opened = λ bs o e. number-opened o ∙ ap numberIn e
@@ -176,6 +183,17 @@ refused-for-stores ws s =
       (λ e. old (kindOf (s .kind)) (decode ws) s (sym (step-refusal (decode ws) s) ∙ e)),
     ))
     (λ _. ((λ e. absurd (eqb-false 3 13 refl e)), (λ e. absurd (eqb-false 3 16 refl e))))
+
+-- ---- why a node waits
+
+pub why-is-exact : WhyIsExactWords
+unfolding whyWords
+why-is-exact ws c =
+    by-cond (ToldExactly (decode ws) c) (wellFormed ws)
+    (λ e. by-cond (ToldExactly (decode ws) c) (nodeInRange (decode ws) c)
+    (λ _. Model.why-is-exact (decode ws) c (well-formed-sound ws e .domain))
+    (λ _. tt))
+    (λ _. tt)
 
 -- ---- E is nothing but a longer T
 

@@ -7,6 +7,7 @@ use lib.Dec.{eqb}
 use Rattle.model.specs.Params.{Params, wordCount}
 use Rattle.model.specs.State.{Step}
 use Rattle.model.specs.Machine.{Outcome, step, fresh}
+use Rattle.model.specs.Why.{Explained, Refused, explained}
 use Rattle.model.specs.Claims.{reachableCount}
 use Rattle.layout.specs.Encode.{encode, decode}
 use Rattle.layout.specs.Words.{wellFormed}
@@ -42,6 +43,11 @@ stepWords ws s = cond (wellFormed ws) (throughWords (step (decode ws) s)) (refus
 
 unfoldable pub reachableWords : List ℕ → Reply
 reachableWords ws = cond (wellFormed ws) (record { refusal = 0; value = reachableCount (decode ws); words = ws }) (refusing 3 ws)
+
+-- ---- why a node waits, a call apart from the steps: 3, then 7, or what the rules say; it leaves all words as they are
+
+unfoldable pub whyWords : List ℕ → ℕ → Explained
+whyWords ws c = cond (wellFormed ws) (explained (decode ws) c) (Refused 3)
 
 -- ---- steps one after another
 

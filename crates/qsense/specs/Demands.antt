@@ -9,15 +9,16 @@ use lib.ListN.{length, set}
 use lib.Dec.{leb, eqb}
 use Rattle.lists.specs.Tests.{every}
 use Rattle.model.specs.Params.{Params, mostTicks, delay, bufferSize, wordCount}
-use Rattle.model.specs.State.{Step}
+use Rattle.model.specs.State.{Domain, Step}
 use Rattle.model.specs.Kinds.{kindOf}
 use Rattle.model.specs.Hazards.{here, young}
-use Rattle.model.specs.Questions.{Question, ask, firstNo, questions}
+use Rattle.model.specs.Questions.{Question, ask, firstNo, nodeInRange, questions}
+use Rattle.model.specs.Why.{Why, Explained, Refused, Told}
 use Rattle.model.specs.Machine.{Outcome}
 use Rattle.model.specs.Reference.{Reference, initial, freeEach}
 use Rattle.model.specs.Claims.{raises, lowers, acceptedAs, TakenBack, turnedFree, freedCount, Matches, Bounded}
 use Rattle.model.specs.Claims.{History, noHistory, recorded}
-use Rattle.model.specs.Claims.{led}
+use Rattle.model.specs.Claims.{led, Exact}
 use Rattle.layout.specs.Shape.{word}
 use Rattle.layout.specs.Codecs.{visibilityWord, latenessWord}
 use Rattle.layout.specs.Encode.{decode, paramsIn}
@@ -27,16 +28,21 @@ use Rattle.trace.specs.Widths.{mostBytes}
 use Rattle.trace.specs.Trace.{Reading, refused, given, trailerRight, paramsOf, frontOf, traceOf}
 use Rattle.trace.specs.Values.{openedValue, refusalOf}
 use Rattle.trace.specs.declared.Opened.{Opened}
-use Rattle.qsense.specs.Calls.{Reply, refusing, makeWords, stepWords, reachableWords, runWords}
+use Rattle.qsense.specs.Calls.{Reply, refusing, makeWords, stepWords, reachableWords, whyWords, runWords}
+use Rattle.qsense.specs.Numbers.{numbersOf}
 
 -- ---- Demand 1: the number of the first question with the answer no, in the paper's order; value 0, the same words
 
--- what is asked before a domain is made, before the reachable count (the panel), before a step, and of a trace (the book)
+-- what is asked before a domain is made, before the reachable count (the panel), before it is told why a node waits, before a step, and of
+-- a trace (the book)
 abbrev pub makeQuestions : List ℕ → Params → List Question
 makeQuestions ws a = ask 1 (inRange a) ∷ ask 2 (eqb (length ws) (wordCount a)) ∷ []
 
 abbrev pub reachableQuestions : List ℕ → List Question
 reachableQuestions ws = ask 3 (wellFormed ws) ∷ []
+
+abbrev pub whyQuestions : List ℕ → ℕ → List Question
+whyQuestions ws c = ask 3 (wellFormed ws) ∷ ask 7 (nodeInRange (decode ws) c) ∷ []
 
 abbrev pub stepQuestions : List ℕ → Step → List Question
 stepQuestions ws s = ask 3 (wellFormed ws) ∷ questions (kindOf (s .kind)) (decode ws) s
@@ -57,9 +63,15 @@ pub record Declines {A : Type 0} (qs : List Question) (r : Reading A) : Type 0 w
   pub refuses : firstNo qs ≢ 0 → r ≡ refused (firstNo qs)
   pub gives : firstNo qs ≡ 0 → (x : A) × (r ≡ given x)
 
+-- the answer to why a node waits, before which qs were asked: it is refused, and nothing else is said, or told
+pub record Tells (qs : List Question) (e : Explained) : Type 0 where
+  pub refuses : firstNo qs ≢ 0 → numbersOf e ≡ numbersOf (Refused (firstNo qs))
+  pub tells : firstNo qs ≡ 0 → (w : Why) × (e ≡ Told w)
+
 pub record Demand1 : Type 0 where
   pub make : (ws : List ℕ) (a : Params) → Refuses (makeQuestions ws a) ws (makeWords ws a)
   pub reachable : (ws : List ℕ) → Refuses (reachableQuestions ws) ws (reachableWords ws)
+  pub why : (ws : List ℕ) (c : ℕ) → Tells (whyQuestions ws c) (whyWords ws c)
   pub step : (ws : List ℕ) (s : Step) → Refuses (stepQuestions ws s) ws (stepWords ws s)
   pub trace : (bs : List ℕ) → Declines (traceQuestions bs) (traceOf bs)
   -- the number that the code answers for what comes of opening one
@@ -102,6 +114,16 @@ RefusedForStores =
     (ws : List ℕ) (s : Step)
     → (stepWords ws s .refusal ≡ 13 → bufferSize ≤ length (here (decode ws) s .buffer))
     × (stepWords ws s .refusal ≡ 16 → every (young (decode ws)) (decode ws .processes) ≡ false)
+
+-- ---- why a node waits, on any words
+
+-- whatever is told is exact; a refusal tells nothing
+abbrev pub ToldExactly : Domain → ℕ → Explained → Type 0
+ToldExactly d c (Refused n) = Unit {0}
+ToldExactly d c (Told w) = Exact d c w
+
+abbrev pub WhyIsExactWords : Type 0
+WhyIsExactWords = (ws : List ℕ) (c : ℕ) → ToldExactly (decode ws) c (whyWords ws c)
 
 -- ---- E is nothing but a longer T, on words that hold a domain
 

@@ -4,3 +4,5 @@ pub mod Cases
 pub mod Impostors
 pub mod Values
 pub mod Runs
+pub mod Numbers
+pub mod WhyCases

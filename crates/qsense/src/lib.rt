@@ -1,5 +1,5 @@
-// The calls: make a domain, how many words it takes, a step, a list of steps, and the reachable count. Each takes any words and any
-// numbers.
+// The calls: make a domain, how many words it takes, a step, a list of steps, the reachable count, and why a node is still waiting. Each
+// takes any words and any numbers.
 mod runs;
 pub mod two_passes;
 
@@ -9,11 +9,13 @@ use layout::Params;
 use layout::ProcessId;
 use layout::words::answer_word;
 use layout::words::step_word;
+use waiting::Explained;
 ghost use mathlib.Core.Path.{_≡_};
 ghost use Rattle.layout.specs.Values.{paramsValue};
 ghost use Rattle.layout.specs.Ranges.{lengthFor};
-ghost use Rattle.qsense.specs.Calls.{makeWords, reachableWords, stepWords};
+ghost use Rattle.qsense.specs.Calls.{makeWords, reachableWords, stepWords, whyWords};
 ghost use Rattle.domain.specs.Effects.{given};
+ghost use Rattle.waiting.specs.Values.{explainedValue};
 ghost use Rattle.qsense.specs.Values.{replyOf};
 ghost use Rattle.qsense.specs.Runs.{ranOf, runInto};
 
@@ -65,6 +67,18 @@ pub fn reachable(words: &[u32]) -> Answer
         refusal: layout::low(answer),
         value: layout::high(answer),
     }
+}
+
+// Why a node is still waiting, and which process is behind in epochs. Refused with 3 unless the words are those of a well-formed domain, then
+// with 7 unless the node is one of its nodes.
+pub fn why(words: &[u32], node: NodeId) -> Explained
+    ensures { λ r. ⌜ explainedValue r ≡ whyWords (now (words .entry)) (node .0) ⌝ }
+{
+    if !wellformed::well_formed(words) {
+        let malformed = wellformed::MALFORMED as u32;
+        return Explained::Refused(malformed);
+    }
+    waiting::explain(words, node)
 }
 
 // One step. Refused with 3 unless the words are those of a well-formed domain, then with the number of the first of the questions 4 to

@@ -2,7 +2,22 @@
 use Prim.Native.Nat.{ℕ}
 use mathlib.Core.List.{List}
 use Rattle.qsense.specs.Calls.{Reply}
+use Rattle.qsense.specs.Numbers.{Numbers}
 use Rattle.qsense_c.specs.declared.Answer.{Answer}
+use Rattle.qsense_c.specs.declared.Why.{Why}
 
 abbrev pub replyOf : Answer → List ℕ → Reply
 replyOf r ws = record { refusal = r .refusal; value = r .value; words = ws }
+
+abbrev pub numbersIn : Why → Numbers
+numbersIn r =
+    record {
+      refusal = r .refusal;
+      answer = r .answer;
+      state = r .state;
+      ticks = r .ticks;
+      process = r .process;
+      hazard = r .hazard;
+      behind = r .behind;
+      behindProcess = r .«behind_process»;
+    }

@@ -3,13 +3,19 @@ use layout::HazardId;
 use layout::NodeId;
 use layout::Params;
 use layout::ProcessId;
+use waiting::Behind;
+use waiting::Explained;
+use waiting::Reason;
 ghost use mathlib.Core.Path.{_≡_};
 ghost use Rattle.model.specs.Params.{paramsOf};
 ghost use Rattle.layout.specs.Ranges.{lengthFor};
-ghost use Rattle.qsense.specs.Calls.{makeWords, stepWords, reachableWords};
+ghost use Rattle.model.specs.Why.{Told, NotAsked};
+ghost use Rattle.waiting.specs.Values.{reasonValue, whyValue};
+ghost use Rattle.qsense.specs.Calls.{makeWords, stepWords, reachableWords, whyWords};
+ghost use Rattle.qsense.specs.Numbers.{told, numbersOf};
 ghost use Rattle.qsense.specs.Runs.{ranOf, runInto};
 ghost use Rattle.domain.specs.Effects.{given};
-ghost use Rattle.qsense_c.specs.Values.{replyOf};
+ghost use Rattle.qsense_c.specs.Values.{replyOf, numbersIn};
 
 #[repr(C)]
 pub struct Answer {
@@ -100,5 +106,95 @@ pub extern "C" fn qsense_reachable(words: &[u32]) -> Answer
     Answer {
         refusal: counted.refusal,
         value: counted.value,
+    }
+}
+
+// ---- why a node waits
+
+// answer: 0 refused, 1 not Retired, 2 too young, 3 visible, 4 ready. behind: 0 not asked, 1 no process is behind, 2 there is one. A number
+// that a case does not have is 0.
+#[repr(C)]
+pub struct Why {
+    pub refusal: u32,
+    pub answer: u32,
+    pub state: u32,
+    pub ticks: u32,
+    pub process: u32,
+    pub hazard: u32,
+    pub behind: u32,
+    pub behind_process: u32,
+}
+
+// The numbers of a reason; who is behind is not asked.
+fn reason_numbers(reason: Reason) -> Why
+    ensures { λ r. ⌜ numbersIn r ≡ told (reasonValue reason) NotAsked ⌝ }
+{
+    let mut why = Why {
+        refusal: 0,
+        answer: 4,
+        state: 0,
+        ticks: 0,
+        process: 0,
+        hazard: 0,
+        behind: 0,
+        behind_process: 0,
+    };
+    match reason {
+        Reason::NotRetired(state) => {
+            why.answer = 1;
+            why.state = state;
+        }
+        Reason::Young(ticks) => {
+            why.answer = 2;
+            why.ticks = ticks;
+        }
+        Reason::Visible(p, h) => {
+            why.answer = 3;
+            why.process = p.0;
+            why.hazard = h.0;
+        }
+        Reason::Ready => {}
+    }
+    why
+}
+
+// The numbers of an answer, with those of who is behind.
+fn numbers(told: waiting::Why) -> Why
+    ensures { λ r. ⌜ numbersIn r ≡ numbersOf (Told (whyValue told)) ⌝ }
+{
+    let reason = told.reason;
+    let behind = told.behind;
+    let mut why = reason_numbers(reason);
+    match behind {
+        Behind::NotAsked => {}
+        Behind::Nobody => {
+            why.behind = 1;
+        }
+        Behind::Lagging(p) => {
+            why.behind = 2;
+            why.behind_process = p.0;
+        }
+    }
+    why
+}
+
+// Why a node is still waiting.
+#[no_mangle]
+pub extern "C" fn qsense_why(words: &[u32], node: u32) -> Why
+    ensures { λ r. ⌜ numbersIn r ≡ numbersOf (whyWords (now (words .entry)) node) ⌝ }
+{
+    let explained = qsense::why(words, NodeId(node));
+    match explained {
+        Explained::Refused(refusal) => Why {
+            refusal,
+            answer: 0,
+            state: 0,
+            ticks: 0,
+            process: 0,
+            hazard: 0,
+            behind: 0,
+            behind_process: 0,
+        },
+        Explained::Told(told) => numbers(told),
     }
 }

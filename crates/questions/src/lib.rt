@@ -17,6 +17,9 @@ ghost use Rattle.layout.specs.Sound.{Sound};
 ghost use Rattle.domain.specs.Effects.{given};
 ghost use Rattle.questions.specs.Answers.{answerTo, asked, askedFirst};
 
+// The number of question 7, which is asked of a node that no step names, too.
+pub const NO_SUCH_NODE: u32 = 7;
+
 // 5: is the process one of the domain's?
 fn process_in_range(words: &[u32], kind: u32, p: ProcessId) -> bool
     requires { ⌜ Sound (now words) ⌝ }
@@ -206,7 +209,7 @@ fn rest(words: &[u32], kind: u32, p: ProcessId, h: HazardId, c: NodeId) -> u32
     if !hazard_in_range(words, kind, h) {
         6
     } else if !node_in_range(words, kind, c) {
-        7
+        NO_SUCH_NODE
     } else if !state_met(words, kind, c) {
         8
     } else if !owned(words, kind, p, c) {

@@ -15,6 +15,7 @@ use Rattle.model.specs.Machine.{step}
 use Rattle.model.specs.Claims.{raises, lowers, acceptedAs, reachableCount}
 use Rattle.model.proofs.Theorems.{step-well-formed, panel-step}
 use Rattle.layout.specs.Encode.{decode}
+use Rattle.layout.specs.Sound.{Sound}
 use Rattle.layout.proofs.Sound.{decoded}
 use Rattle.text.specs.Text.{Put, stepText, stepTextSize}
 use Rattle.text.proofs.Digits.{put-take}
@@ -56,6 +57,11 @@ module _ (n kind refusal : ℕ) where
   pub count-kept : refusal ≡ 0 → raises kind ≡ false → kind ≢ 7 → n ≡ countAfter n kind refusal
   count-kept e p r = rw (e, p, ne-eqb kind 7 r) (omega arith)
 
+-- the domain after the step is the rules'
+pub after-is : (ws : List ℕ) → Sound ws → (s : Step) (r v : ℕ) (ws' : List ℕ) → Stepped (step (decode ws) s) r v ws'
+    → decode ws' ≡ step (decode ws) s .after
+after-is ws sound s r v ws' h = decoded (h .words) (step-well-formed (decode ws) s (sound .domain))
+
 module _ (ws : List ℕ) (n : ℕ) (c : Counted ws n) (s : Step) (r v : ℕ) (ws' : List ℕ) (h : Stepped (step (decode ws) s) r v ws') where
   law : reachableCount (step (decode ws) s .after) + acceptedAs lowers (s .kind) r ≡ n + acceptedAs raises (s .kind) r
   law = rw (h .refusal, c .1) (panel-step (decode ws) s (c .0 .domain))
@@ -64,15 +70,15 @@ module _ (ws : List ℕ) (n : ℕ) (c : Counted ws n) (s : Step) (r v : ℕ) (ws
   pub lowered : acceptedAs lowers (s .kind) r ≤ n
   lowered = apart (s .kind) n _ (eqb r 0) (lowers (s .kind)) refl law
 
-  after-is : decode ws' ≡ step (decode ws) s .after
-  after-is = decoded (h .words) (step-well-formed (decode ws) s (c .0 .domain))
+  after : decode ws' ≡ step (decode ws) s .after
+  after = after-is ws (c .0) s r v ws' h
 
   module _ (m : ℕ) (e : m ≡ countAfter n (s .kind) r) where
     panel-is : m ≡ reachableCount (step (decode ws) s .after)
     panel-is = omega (arith, e, law)
 
     counted-after : Counted ws' m
-    counted-after = (h .sound, omega (arith, panel-is, ap reachableCount after-is))
+    counted-after = (h .sound, omega (arith, panel-is, ap reachableCount after))
 
     -- the line of the step, the i-th, is as short as the print counts on
     pub line-size : (i : ℕ) → i < 5458 → s .kind < 256 → stepTextSize i (s .kind) r v m ≤ 27
@@ -87,7 +93,7 @@ module _ (ws : List ℕ) (n : ℕ) (c : Counted ws n) (s : Step) (r v : ℕ) (ws
         let line = put-take out at _ _ out' at' x (omega arith) in
         record {
           counted = counted-after;
-          domain = after-is;
+          domain = after;
           text = line ∙ (λ t. take at out ++ stepText i (s .kind) (h .refusal t) (h .value t) (panel-is t));
           room = omega (arith, x .ends);
         }

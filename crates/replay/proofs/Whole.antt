@@ -1,18 +1,19 @@
--- The whole of a replay: the first line, the lines of the steps and the last line are the book's print. Assumes nothing.
+-- A trace that opens, and the whole of its replay: the first line, the lines of the steps and the last line are its print. Assumes nothing.
 use Prim.Native.Nat.{ℕ, _+_, _*_, _≤_}
 use mathlib.Core.List.{List, _++_}
 use mathlib.Core.Path.{_≡_, ap, _∙_}
 use native.Mathlib.Omega.{arith}
 use lib.ListN.{length, take}
-use Rattle.model.specs.Params.{InRange}
+use Rattle.model.specs.Params.{InRange, wordCount}
 use Rattle.model.specs.State.{Domain}
 use Rattle.model.specs.WellFormed.{WellFormed}
 use Rattle.model.specs.Machine.{run, fresh}
 use Rattle.model.proofs.Theorems.{fresh-well-formed}
 use Rattle.layout.specs.Encode.{encode, decode}
 use Rattle.layout.specs.Sound.{Sound}
+use Rattle.layout.specs.Ranges.{lengthFor, mostWords}
 use Rattle.layout.proofs.Sound.{decoded, sound-at}
-use Rattle.layout.proofs.Ranges.{in-range}
+use Rattle.layout.proofs.Ranges.{in-range, length-in-range, words-most}
 use Rattle.trace.specs.Bytes.{stepsFrom}
 use Rattle.trace.specs.Trace.{given, Front, frontOf}
 use Rattle.trace.specs.Claims.{ledFrom}
@@ -22,7 +23,7 @@ use Rattle.text.specs.Text.{Put, paramsText, paramsTextSize, endText, endTextSi
 use Rattle.text.proofs.Digits.{put-take}
 use Rattle.replay.specs.Most.{mostParamsLine, bookRoom}
 use Rattle.replay.specs.Lines.{stepLines, lastLine, bookText}
-use Rattle.replay.specs.Turn.{Ran, Replayed}
+use Rattle.replay.specs.Turn.{endOf, Ran, Replayed}
 use Rattle.replay.proofs.Sizes.{params-size, end-size}
 use Rattle.replay.proofs.Step.{few}
 
@@ -37,6 +38,13 @@ module _ (bs : List ℕ) (f : Front) (opened : frontOf bs ≡ given f) where
   pub ranged : InRange (f .params)
   ranged = in-range (f .params) (passed bs f opened .range)
 
+  -- its domain takes so many words
+  pub long-is : lengthFor (f .params .processes) (f .params .hazards) (f .params .nodes) ≡ wordCount (f .params)
+  long-is = length-in-range (f .params) (passed bs f opened .range)
+
+  pub long-most : wordCount (f .params) ≤ mostWords
+  long-most = words-most (f .params) ranged
+
   well : WellFormed (fresh (f .params))
   well = fresh-well-formed (f .params) ranged
 
@@ -47,12 +55,13 @@ module _ (bs : List ℕ) (f : Front) (opened : frontOf bs ≡ given f) where
     pub made-sound : Sound ws₁
     made-sound = sound-at made well
 
+    -- the domain after all steps is the one that the trace ends in
+    pub come : (ws₂ : List ℕ) → decode ws₂ ≡ run (decode ws₁) (stepsFrom bs (f .first) (f .count)) → decode ws₂ ≡ endOf (ledFrom bs f)
+    come ws₂ e = e ∙ ap (λ (d : Domain). run d (stepsFrom bs (f .first) (f .count))) (decoded made well)
+
     module _ (start at r : ℕ) (out₁ ws₂ out₂ : List ℕ)
         (ran : Ran (stepsFrom bs (f .first) (f .count)) start ws₁ out₁ ws₂ out₂ (record { at = at; reachable = r }))
         (begun : start ≡ 0 + paramsTextSize (f .params)) where
-      come : decode ws₂ ≡ run (fresh (f .params)) (stepsFrom bs (f .first) (f .count))
-      come = ran .domain ∙ ap (λ (d : Domain). run d (stepsFrom bs (f .first) (f .count))) (decoded made well)
-
       module _ (clock path : ℕ) (c : clock ≡ decode ws₂ .clock) (p : path ≡ decode ws₂ .path) where
         pub last-line : at + endTextSize clock path r ≤ bookRoom (f .count)
         last-line =
@@ -65,8 +74,8 @@ module _ (bs : List ℕ) (f : Front) (opened : frontOf bs ≡ given f) where
               end-size clock path r (omega (arith, p, ran .counted .0 .domain .path)) (few ws₂ r (ran .counted)),
             )
 
-        last-is : endText clock path r ≡ lastLine (run (fresh (f .params)) (stepsFrom bs (f .first) (f .count)))
-        last-is = (λ t. endText (c t) (p t) (ran .counted .1 t)) ∙ ap lastLine come
+        last-is : endText clock path r ≡ lastLine (endOf (ledFrom bs f))
+        last-is = (λ t. endText (c t) (p t) (ran .counted .1 t)) ∙ ap lastLine (come ws₂ (ran .domain))
 
         pub replayed : (out out₃ : List ℕ) (n : ℕ) → bookRoom (f .count) ≤ length out → bookRoom (f .count) ≤ length out₂
             → Put out 0 (paramsText (f .params)) (paramsTextSize (f .params)) out₁ start
@@ -81,7 +90,7 @@ module _ (bs : List ℕ) (f : Front) (opened : frontOf bs ≡ given f) where
             λ t. first t ++ stepLines 0 (decoded made well t) (stepsFrom bs (f .first) (f .count)) in
             let before = ran .text ∙ steps in
             record {
-              words = ran .counted .0 .whole ∙ ap encode come;
+              words = ran .counted .0 .whole ∙ ap encode (come ws₂ (ran .domain));
               text = last ∙ (λ t. before t ++ last-is t);
               room = omega (arith, y .ends, last-line, steps-many bs (f .first) (f .count));
             }

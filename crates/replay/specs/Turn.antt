@@ -4,7 +4,7 @@ use mathlib.Core.List.{List, _++_}
 use mathlib.Core.Path.{_≡_}
 use lib.ListN.{length, take}
 use Rattle.model.specs.Params.{wordCount}
-use Rattle.model.specs.State.{Step}
+use Rattle.model.specs.State.{Domain, Step}
 use Rattle.model.specs.Machine.{step, run, fresh}
 use Rattle.model.specs.Claims.{raises, lowers, acceptedAs, reachableCount}
 use Rattle.layout.specs.Encode.{encode, decode}
@@ -40,8 +40,12 @@ pub record Ran (ss : List Step) (at : ℕ) (ws out ws' out' : List ℕ) (r : Tur
 abbrev pub Ready : List ℕ → Front → List ℕ → List ℕ → Type 0
 Ready bs f ws out = (frontOf bs ≡ given f) × (length ws ≡ wordCount (f .params)) × (bookRoom (f .count) ≤ length out)
 
+-- the domain that a trace ends in: its steps taken on a fresh domain of its parameters
+abbrev pub endOf : Trace → Domain
+endOf t = run (fresh (t .params)) (t .steps)
+
 -- the trace is replayed: the words are those that the rules come to, and the first n bytes of the buffer are its print
 pub record Replayed (t : Trace) (ws' out' : List ℕ) (n : ℕ) : Type 0 where
-  pub words : ws' ≡ encode (run (fresh (t .params)) (t .steps))
+  pub words : ws' ≡ encode (endOf t)
   pub text : take n out' ≡ bookText t
   pub room : n ≤ bookRoom (length (t .steps))

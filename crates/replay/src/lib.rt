@@ -1,4 +1,5 @@
 // The running of a trace (the paper's step book) on words of its own: each step's line is put into the print as the step is taken.
+pub mod end;
 pub mod most;
 
 use layout::HazardId;

@@ -1,3 +1,4 @@
 pub mod MarkedTo
 pub mod Unmarked
 pub mod Branches
+pub mod Seen

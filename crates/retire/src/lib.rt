@@ -1,6 +1,7 @@
 // Retire (kind 8): a node marked Retired, the switch to the fallback path, and the scan.
 mod marks;
 pub mod scan;
+pub mod shown;
 
 use layout::Node;
 use layout::NodeId;

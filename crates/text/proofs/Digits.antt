@@ -1,11 +1,12 @@
--- Digits stored from the last to the first, how many a small number has, and one text after another. Assumes nothing.
+-- Digits stored from the last to the first, how many a small number has, one text after another, and a text copied. Assumes nothing.
 use Prim.Native.Nat.{ℕ, zero, suc, _+_, _-_, _/_, _%_, _<_, _≤_}
 use mathlib.Core.List.{List, [], _∷_, _++_}
 use mathlib.Core.Path.{_≡_, refl, sym, ap, _∙_}
 use mathlib.Core.Logic.{_≢_}
+use native.Mathlib.Numerals.{add-one}
 use native.Mathlib.Omega.{arith}
-use lib.ListN.{length, take, set, length-append}
-use lib.Seq.{sets, set-comm}
+use lib.ListN.{length, take, set, getD, length-append}
+use lib.Seq.{sets, set-comm, length-take-le, take-suc, take-all}
 use borrow.Author.Tests.{lt-ltb}
 use Rattle.lists.proofs.RowParts.{take-sets}
 use Rattle.text.specs.Text.{digits, digitCount, Put, numberText, numberSize}
@@ -107,6 +108,23 @@ pub put-take : (page : List ℕ) (at : ℕ) (text : List ℕ) (n : ℕ) (page' :
 put-take page at text n page' at' p h =
     ap (λ (x : List ℕ). take at' x) (p .bytes)
     ∙ take-sets text page at at' (omega (arith, p .ends, p .long)) (omega (arith, p .ends))
+
+-- ---- a text copied byte by byte
+
+-- one byte more of it
+pub copied : (page text page' : List ℕ) (at i : ℕ) → i < length text → page' ≡ sets page at (take i text)
+    → set page' (at + i) (getD text i 0) ≡ sets page at (take (i + 1) text)
+copied page text page' at i h e =
+    let n : at + i ≡ at + length (take i text) = omega (arith, length-take-le i text (omega arith)) in
+    (λ t. set (e t) (n t) (getD text i 0))
+    ∙ sets-append (take i text) (getD text i 0 ∷ []) page at
+    ∙ rw (add-one, take-suc text i 0 h)
+
+-- all of it
+pub all-copied : (page text page' : List ℕ) (at i : ℕ) → length text ≤ i → i ≤ length text → page' ≡ sets page at (take i text)
+    → Put page at text (length text) page' (at + i)
+all-copied page text page' at i h k e =
+    record { bytes = e ∙ ap (λ (x : List ℕ). sets page at x) (take-all i text h); long = refl; ends = omega arith }
 
 -- ---- bytes stored one by one
 

@@ -1,5 +1,8 @@
 -- A number in decimal digits, and the lines of a book's print, as bytes. Assumes nothing.
 use Prim.Native.Nat.{ℕ, zero, suc, _+_, _/_, _%_}
+use Prim.Native.Char.{code}
+use Prim.Native.String.{String}
+use Prim.Native.String as S
 use mathlib.Core.Bool.{cond}
 use mathlib.Core.List.{List, [], _∷_, _++_}
 use mathlib.Core.Path.{_≡_}
@@ -27,6 +30,11 @@ numberText n after = digits (digitCount n) n ++ (after ∷ [])
 -- its bytes
 abbrev pub numberSize : ℕ → ℕ
 numberSize n = digitCount n + 1
+
+-- the bytes of a quoted text
+abbrev pub bytes : String → List ℕ
+bytes S.[] = []
+bytes (S._∷_ c s) = code c ∷ bytes s
 
 abbrev pub space : ℕ
 space = 32

@@ -71,6 +71,19 @@ pub fn put_number(out: &mut [u8], at: usize, n: u32, after: u8) -> usize
     end + 1
 }
 
+// Puts a text from `at` on, and answers the place after it.
+pub fn put_bytes(out: &mut [u8], at: usize, text: &[u8]) -> usize
+    requires { ⌜ at + length (now text) ≤ length (now out) ⌝ }
+    ensures { λ r. ⌜ Put (now (out .entry)) at (now (text .entry)) (length (now (text .entry))) (now (out .exit)) r ⌝ }
+{
+    let mut i = 0;
+    while i < text.len() {
+        out[at + i] = text[i];
+        i += 1;
+    }
+    at + i
+}
+
 // The words that lines begin with: `desk` at the start, `end` where the last line goes, `refused` at the start.
 fn put_desk_word(out: &mut [u8]) -> usize
     requires { ⌜ length deskWord ≤ length (now out) ⌝ }

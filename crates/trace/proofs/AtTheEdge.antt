@@ -41,16 +41,20 @@ read-so =
     then refl
     then tt
 
+-- the paper's book
+pub paper-read : traceOf paperBytes ≡ given paperTrace
+paper-read = first read-so
+  where
+    first : All Reads cases → traceOf paperBytes ≡ given paperTrace
+    first r = r .0
+
 paper-right : trailerRight paperBytes ≡ true
 unfolding trailerRight wordAt markAt
 paper-right = refl
 
 pub at-the-limit : AtTheLimit
 at-the-limit before e =
-    earlier-unread before paperBytes paper-right (omega (arith, length-append before paperBytes)) ∙ all-at-first read-so
-  where
-    all-at-first : All Reads cases → traceOf paperBytes ≡ given paperTrace
-    all-at-first r = r .0
+    earlier-unread before paperBytes paper-right (omega (arith, length-append before paperBytes)) ∙ paper-read
 
 pub past-the-limit : PastTheLimit
 unfolding traceOf

@@ -4,3 +4,4 @@ pub mod Shifted
 pub mod ReadBack
 pub mod AtTheEdge
 pub mod Theorems
+pub mod Refused

@@ -51,7 +51,7 @@ fn wide(x: u8) -> u32
 }
 
 // The number of the four bytes from at on, the lowest first.
-fn word_at(bytes: &[u8], at: usize) -> u32
+pub fn word_at(bytes: &[u8], at: usize) -> u32
     requires { ⌜ at + wordSize ≤ length (now bytes) ⌝ }
     ensures { λ r. ⌜ r ≡ wordAt (now (bytes .entry)) at ⌝ }
 {
@@ -62,7 +62,7 @@ fn word_at(bytes: &[u8], at: usize) -> u32
 }
 
 // Do the bytes QBAK stand from at on?
-fn mark_at(bytes: &[u8], at: usize) -> bool
+pub fn mark_at(bytes: &[u8], at: usize) -> bool
     requires { ⌜ at + wordSize ≤ length (now bytes) ⌝ }
     ensures { λ r. ⌜ r ≡ markAt (now (bytes .entry)) at ⌝ }
 {

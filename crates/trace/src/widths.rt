@@ -1,6 +1,9 @@
 // Where things stand in a trace, in bytes, and the most bytes that one may have. The one place in code that knows them; the definitions
 // have theirs in specs/Widths.antt.
 
+// A number of 32 bits, and the mark.
+pub const WORD: usize = 4;
+
 // The seven parameters, a word each: N, K, M, T, Q, C and E.
 pub mod params_byte {
     pub const PROCESSES: usize = 0;

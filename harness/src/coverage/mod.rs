@@ -2,13 +2,16 @@
 
 mod late;
 mod leaving;
+mod why;
 
 use crate::layout::BUFFER;
 use crate::model::domain::{Domain, Node, Path};
 use crate::model::questions::{LAST_QUESTION, QUESTIONS};
 use crate::step::{Answer, Field, Kind, Step};
+use crate::why::Why;
 use late::Late;
 use leaving::Leaving;
+use why::Waiting;
 
 #[derive(Default)]
 pub struct Coverage {
@@ -29,6 +32,7 @@ pub struct Coverage {
     unread_fields: u64,
     leaving: Leaving,
     late: Late,
+    waiting: Waiting,
     // of the domain before the step in hand
     path: Option<Path>,
     pending: usize,
@@ -92,6 +96,11 @@ impl Coverage {
         }
     }
 
+    /// Counts what was said of a node of this domain.
+    pub fn told(&mut self, domain: &Domain, node: u32, why: Why) {
+        self.waiting.told(domain, node, why);
+    }
+
     /// Counts an answer given on words that need not be a domain.
     pub fn on_words(&mut self, answer: Answer) {
         self.steps += 1;
@@ -118,6 +127,7 @@ impl Coverage {
             ("accepted with unread fields", self.unread_fields),
         ];
         let others = others.into_iter().chain(self.leaving.counts()).chain(self.late.counts());
+        let others = others.chain(self.waiting.counts());
         kinds.chain(numbers).chain(others.map(|(name, count)| (name.to_string(), count))).collect()
     }
 

@@ -107,11 +107,11 @@ impl Model {
         self.domain.nodes.iter().filter(counts).count() as u32
     }
 
-    fn scan(&mut self, scanner: u32) -> u32 {
+    pub(super) fn scan(&mut self, scanner: u32) -> u32 {
         let rules = self.rules;
         let clock = self.domain.clock;
         let seen = self.seen_by(scanner);
-        let old = self.delay(Mistake::ScanWithoutLateness) + 1 - rules.have(Mistake::FreesAtAgeT) as u32;
+        let old = self.least_age();
         let current = self.domain.process(scanner).epoch;
         self.free_where(|id, owner, retired_at, limbo| {
             (owner == scanner || rules.have(Mistake::ScansNodesOfAll))
@@ -119,6 +119,11 @@ impl Model {
                 && (!seen.contains(&id) || rules.have(Mistake::NoVisibleTest))
                 && (limbo == current || !rules.have(Mistake::ScansCurrentLimboOnly))
         })
+    }
+
+    /// From this age on a scan may free a node.
+    pub(super) fn least_age(&self) -> u32 {
+        self.delay(Mistake::ScanWithoutLateness) + 1 - self.rules.have(Mistake::FreesAtAgeT) as u32
     }
 
     /// The nodes that a scan by this process sees in the hazards of all.
@@ -136,7 +141,7 @@ impl Model {
 
     /// What the scanning process sees in a hazard: in its own the node of the last pending store to it, or else, and in those of others,
     /// the visible one.
-    fn seen_in(&self, process: &Process, place: usize, own: bool) -> Option<u32> {
+    pub(super) fn seen_in(&self, process: &Process, place: usize, own: bool) -> Option<u32> {
         let Hazard { visible, assigned, .. } = process.hazards[place];
         if self.rules.have(Mistake::ScanLooksAtAssigned) || own && self.rules.have(Mistake::OwnAssigned) {
             return assigned;

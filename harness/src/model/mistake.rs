@@ -70,6 +70,16 @@ mistakes! {
     PanelWellAgain
     PanelCountsRemoved
     PanelLeavesOutLast
+    // in why a node waits
+    WhyReadyWithoutHazards
+    WhyForgetsOwnStores
+    WhyYoungOneShort
+    WhyHighestProcess
+    WhyHighestHazard
+    WhyNamesAbsent
+    WhyHighestBehind
+    WhyAsksOnFallback
+    WhyAsksNodeFirst
     // in the order of the questions
     AsksOwnerBeforeState
     AsksAgeBeforeClock

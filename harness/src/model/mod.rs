@@ -5,6 +5,7 @@ mod effects;
 pub mod mistake;
 pub mod panel;
 pub mod questions;
+pub mod why;
 pub mod words;
 
 use crate::layout::{ANSWER, STEP};

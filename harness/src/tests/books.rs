@@ -1,6 +1,7 @@
 //! Books through the built `desk`: what it prints is what the model prints.
 
 use super::examples;
+use super::program::{caught, complaint, given, only_complaint, Outcome};
 use crate::book::{distance, print, trailer, write, GREATEST, MOST_STEPS, PARAMS, STEP, TRAILER};
 use crate::model::mistake::Rules;
 use crate::model::Model;
@@ -10,12 +11,8 @@ use crate::report::Report;
 use crate::schedule::Mood;
 use crate::step::Step;
 use std::fs::File;
-use std::io::Write;
 use std::path::Path;
-use std::process::{Command, Output, Stdio};
-use std::time::Duration;
-
-type Outcome = Result<String, String>;
+use std::process::{Command, Stdio};
 
 pub fn all(report: &mut Report, desk: &Path, folder: &Path, seed: u64) {
     let mut test =
@@ -40,33 +37,8 @@ pub fn all(report: &mut Report, desk: &Path, folder: &Path, seed: u64) {
     }
 }
 
-/// Runs `desk`, giving its input in pieces of at most `chunk` bytes.
-fn run(desk: &Path, input: &[u8], chunk: usize) -> Result<Output, String> {
-    given(Command::new(desk).stdout(Stdio::piped()).stderr(Stdio::piped()), input, chunk)
-}
-
-/// Runs a command, giving its input in pieces of at most `chunk` bytes.
-fn given(command: &mut Command, input: &[u8], chunk: usize) -> Result<Output, String> {
-    let mut child = command.stdin(Stdio::piped()).spawn().map_err(|error| format!("{command:?}: {error}"))?;
-    let mut pipe = child.stdin.take().expect("a pipe");
-    let input = input.to_vec();
-    let writer = std::thread::spawn(move || {
-        for (number, piece) in input.chunks(chunk).enumerate() {
-            if number > 0 {
-                std::thread::sleep(Duration::from_micros(50)); // so that the program may read what there is
-            }
-            if pipe.write_all(piece).is_err() {
-                break; // a program that has read enough may leave
-            }
-        }
-    });
-    let output = child.wait_with_output().map_err(|error| error.to_string());
-    writer.join().map_err(|_| "the writer panicked")?;
-    output
-}
-
 fn same_in(desk: &Path, input: &[u8], chunk: usize) -> Outcome {
-    let output = run(desk, input, chunk)?;
+    let output = caught(&mut Command::new(desk), input, chunk)?;
     let (found, expected) = (String::from_utf8_lossy(&output.stdout), print(input));
     if found != expected {
         let line = found.lines().zip(expected.lines()).take_while(|(x, y)| x == y).count();
@@ -112,14 +84,14 @@ fn schedule(random: &mut Random, params: Params, length: usize) -> Vec<Step> {
     steps.collect()
 }
 
-fn random_book(seed: u64, index: u64) -> Vec<u8> {
+pub(super) fn random_book(seed: u64, index: u64) -> Vec<u8> {
     let mut random = Random::new(seed ^ 0xb00c, index);
     let params = Params::random(&mut random);
     let length = *random.of(&[1, 13, 100, 700]);
     book_of(&mut random, params, length)
 }
 
-fn book_of(random: &mut Random, params: Params, length: usize) -> Vec<u8> {
+pub(super) fn book_of(random: &mut Random, params: Params, length: usize) -> Vec<u8> {
     let steps = schedule(random, params, length);
     write(params, &steps, random.word() as u8)
 }
@@ -172,7 +144,7 @@ fn wrong_mark(desk: &Path, seed: u64) -> Outcome {
     each(desk, books, Some(19))
 }
 
-fn with_trailer(book: &[u8], count: u32, distance: u32) -> Vec<u8> {
+pub(super) fn with_trailer(book: &[u8], count: u32, distance: u32) -> Vec<u8> {
     [&book[..book.len() - TRAILER], &trailer(count, distance)].concat()
 }
 
@@ -222,7 +194,7 @@ fn lateness(desk: &Path, _: u64) -> Outcome {
 }
 
 /// A book as it was written before E: six parameters, and the distance of then.
-fn old_book(first: [u32; 6], seed: u64, count: usize) -> Vec<u8> {
+pub(super) fn old_book(first: [u32; 6], seed: u64, count: usize) -> Vec<u8> {
     let (params, old) = (Params::of(&[2, 1, 2, 3, 1, 1]), first.map(u32::to_le_bytes).concat());
     let book = write(params, &schedule(&mut Random::new(seed, 8), params, count), 0);
     [&old, &book[PARAMS..book.len() - TRAILER], &trailer(count as u32, 36 + 12 * count as u32)].concat()
@@ -268,10 +240,7 @@ fn chunks(desk: &Path, seed: u64) -> Outcome {
 fn unreadable(desk: &Path, _: u64) -> Outcome {
     let directory = File::open("/").map_err(|error| error.to_string())?;
     let output = Command::new(desk).stdin(directory).output().map_err(|error| error.to_string())?;
-    match output.stdout.is_empty() {
-        true => complaint(&output),
-        false => Err(format!("standard output {:?}", String::from_utf8_lossy(&output.stdout))),
-    }
+    only_complaint(&output)
 }
 
 /// A device that is full as standard output, for a book of many pages, for one of a page and for one that is refused: a line on
@@ -285,13 +254,4 @@ fn unwritable(desk: &Path, seed: u64) -> Outcome {
         said = complaint(&given(command.stdout(full).stderr(Stdio::piped()), &input, input.len().max(1))?)?;
     }
     Ok(said)
-}
-
-/// The one line on standard error.
-fn complaint(output: &Output) -> Outcome {
-    let said = String::from_utf8_lossy(&output.stderr);
-    match (said.lines().count(), said.ends_with('\n')) {
-        (1, true) => Ok(said.trim_end().to_string()),
-        _ => Err(format!("standard error {said:?}")),
-    }
 }

@@ -11,5 +11,8 @@ pub mod malformed;
 pub mod mistakes;
 mod objections;
 pub mod panel;
+mod program;
 pub mod runs;
 pub mod schedules;
+pub mod why;
+pub mod why_lines;

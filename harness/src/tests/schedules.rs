@@ -41,6 +41,7 @@ pub fn from_fresh(calls: &Calls, rules: Rules, random: &mut Random, coverage: &m
 pub fn from_arbitrary(calls: &Calls, rules: Rules, random: &mut Random, coverage: &mut Coverage) -> Result<(), String> {
     let params = Params::random(random);
     let run = Lockstep::from(calls, rules, arbitrary::domain(random, params));
+    run.why_all(coverage).map_err(|wrong| format!("{params}, before any step: {wrong}"))?;
     go_on(run, 12, random, coverage)
 }
 
@@ -52,7 +53,7 @@ fn go_on(mut run: Lockstep, steps: u32, random: &mut Random, coverage: &mut Cove
         run.step(step, coverage)
             .map_err(|wrong| format!("{}, step {number} ({step}): {wrong}", run.model.domain.params))?;
     }
-    Ok(())
+    run.why_all(coverage).map_err(|wrong| format!("{}, after {steps} steps: {wrong}", run.model.domain.params))
 }
 
 /// Whether all was met that the tests are to meet, each at least so often.

@@ -4,9 +4,9 @@ use native.Mathlib.Omega.{arith}
 use borrow.Author.Needs.{needs}
 use Rattle.trace.specs.Trace.{refused}
 use Rattle.trace.specs.Values.{openedValue}
+use Rattle.trace.proofs.Refused.{numbered}
 use Rattle.text.proofs.Sizes.{ten-most}
 use Rattle.print.proofs.FoundOrRefused.{not-found}
-use Rattle.print.proofs.Refused.{numbered}
 use Rattle.print.proofs.print_book.Statement.{statement}
 use Rattle.print.proofs.print_book.Tie as tie
 

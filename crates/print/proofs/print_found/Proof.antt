@@ -4,7 +4,8 @@ use native.Mathlib.Omega.{arith}
 use borrow.Author.Needs.{needs}
 use Rattle.model.specs.Params.{wordCount}
 use Rattle.trace.specs.Values.{headerValue}
-use Rattle.print.proofs.FoundOrRefused.{long-is, long-most, room, found}
+use Rattle.replay.proofs.Whole.{long-is, long-most}
+use Rattle.print.proofs.FoundOrRefused.{room, found}
 use Rattle.print.proofs.print_found.Statement.{statement}
 use Rattle.print.proofs.print_found.Tie as tie
 

@@ -5,6 +5,7 @@ use mathlib.Core.Path.{_≡_, refl, ap}
 use native.Mathlib.Omega.{arith}
 use lib.ListN.{length}
 use borrow.Author.Needs.{needs}
+use Rattle.trace.specs.Bytes.{stepAt}
 use Rattle.replay.proofs.Turns.{Going, going-start, going-on, going-end}
 use Rattle.replay.proofs.replay_steps.Statement.{statement}
 use Rattle.replay.proofs.replay_steps.Tie as tie
@@ -38,7 +39,8 @@ add-from c = search needs
 
 replay-step-requires : tie.Need-replay-step-requires Inv-loop μ-loop
 replay-step-requires c κs =
-    let going = c .before .before .before .before .loop .inv .3 in (going .counted, omega arith, omega (arith, going .room))
+    let going = c .before .before .before .before .loop .inv .3 in
+    ((going .words .sound, going .count), omega arith, omega (arith, going .room))
 
 add-i : tie.Need-add-i Inv-loop μ-loop
 add-i c = search needs
@@ -52,11 +54,11 @@ loop-again c =
     let wide = taken .before .before .before in
     let at-loop = wide .before .before in
     let first = at-loop .before .before .before .before .before .before .args .first in
-    let from = ap (λ (n : ℕ). first + 12 * n) (wide .wide .ensures .0) in (
+    let step = ap (λ (n : ℕ). stepAt (at-loop .before .before .before .before .before .before .args .bytes .now) (first + 12 * n)) (wide .wide .ensures .0) in (
       omega arith,
       search needs,
       search needs,
-      going-on _ _ _ _ _ _ _ _ _ _ _ _ _ _ _ _ (omega arith) from (at-loop .loop .inv .3) (taken .replay-step .ensures),
+      going-on _ _ _ _ _ _ _ (omega arith) step _ _ _ _ _ _ _ _ _ (at-loop .loop .inv .3) (taken .replay-step .ensures),
     )
 
 same-length : tie.Need-same-length Inv-loop μ-loop

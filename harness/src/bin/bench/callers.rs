@@ -3,12 +3,15 @@
 use harness::library::Calls;
 use harness::model::mistake::Rules;
 use harness::model::panel::reachable_words;
+use harness::model::why::why_words;
 use harness::model::{run_words, step_words};
 use harness::step::{Answer, Step};
+use harness::why::WhyAnswer;
 
 pub trait Caller {
     fn step(&self, words: &mut Vec<u32>, step: Step) -> Answer;
     fn reachable(&self, words: &[u32]) -> Answer;
+    fn why(&self, words: &[u32], node: u32) -> WhyAnswer;
     fn run(&self, words: &mut Vec<u32>, steps: &[u32], answers: &mut [u32]) -> bool;
 }
 
@@ -19,6 +22,10 @@ impl Caller for Calls {
 
     fn reachable(&self, words: &[u32]) -> Answer {
         Calls::reachable(self, words)
+    }
+
+    fn why(&self, words: &[u32], node: u32) -> WhyAnswer {
+        Calls::why(self, words, node)
     }
 
     fn run(&self, words: &mut Vec<u32>, steps: &[u32], answers: &mut [u32]) -> bool {
@@ -35,6 +42,10 @@ impl Caller for ByModel {
 
     fn reachable(&self, words: &[u32]) -> Answer {
         reachable_words(words, Rules::default())
+    }
+
+    fn why(&self, words: &[u32], node: u32) -> WhyAnswer {
+        why_words(words, [node], Rules::default())[0].answer()
     }
 
     fn run(&self, words: &mut Vec<u32>, steps: &[u32], answers: &mut [u32]) -> bool {

@@ -96,6 +96,15 @@ pub fn count_beside_check(params: Params) -> Option<Goal> {
     }
 }
 
+/// Why a node waits, beside an unknown step.
+pub fn why_beside_check(params: Params) -> Option<Goal> {
+    if greatest(params) {
+        beside(Beside::Check, 1.15)
+    } else {
+        None
+    }
+}
+
 pub fn mixed_run(params: Params) -> Option<Goal> {
     beside(Beside::COnce, if greatest(params) { 1.0 } else { 1.2 })
 }

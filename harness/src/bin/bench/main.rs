@@ -14,6 +14,7 @@ mod retire;
 mod rows;
 mod single;
 mod table;
+mod why;
 
 use harness::params::Params;
 use std::path::PathBuf;
@@ -35,7 +36,7 @@ fn main() {
     let mut table = Table::default();
     table.head();
     let shapes = SHAPES.map(|numbers| Params::of(&numbers));
-    for all in [rows::all, retire::all, leave::all, cycles::all] {
+    for all in [rows::all, why::all, retire::all, leave::all, cycles::all] {
         shapes.into_iter().for_each(|params| all(params, &mut table));
     }
     if let Some(desk) = desk {

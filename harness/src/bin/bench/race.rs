@@ -118,3 +118,21 @@ impl<C: Caller> Work for Counts<'_, C> {
         }
     }
 }
+
+/// Why a node of each domain in turn waits.
+pub struct Whys<'a, C> {
+    pub caller: &'a C,
+    pub domains: &'a [Vec<u32>],
+    /// that of each domain
+    pub nodes: &'a [u32],
+    pub turns: usize,
+}
+
+impl<C: Caller> Work for Whys<'_, C> {
+    fn run(&mut self) {
+        for turn in 0..self.turns {
+            let place = turn % self.domains.len();
+            black_box(self.caller.why(&self.domains[place], self.nodes[place]));
+        }
+    }
+}

@@ -14,9 +14,9 @@ use harness::random::Random;
 use harness::schedule::Mood;
 use harness::step::Step;
 
-const ROUNDS: u32 = 800;
+pub const ROUNDS: u32 = 800;
 const MODEL_ROUNDS: u32 = 10;
-const STEPS: usize = 5_000;
+pub const STEPS: usize = 5_000;
 
 /// Domains with their words and a schedule of mostly accepted steps, which visits them in turn.
 struct Plan {
@@ -56,16 +56,14 @@ fn running(random: &mut Random, params: Params) -> Model {
 }
 
 pub fn all(params: Params, table: &mut Table) {
-    let shape = shape(params);
     for domains in [1, 64] {
         let plan = Plan::new(params, domains);
-        let name =
-            |what: &str| format!("{shape}, {what}, {domains} domain{}", if domains == 1 { "" } else { "s in turn" });
+        let name = |what: &str| name(params, what, domains);
         steps(table, &name("check alone"), &plan.start, &plan.unknown(), goals::check(params, domains));
         steps(table, &name("step"), &plan.start, &plan.schedule, goals::call(params));
         count(table, params, &plan, &name);
         if domains == 1 {
-            let name = format!("{shape}, run of {STEPS} steps");
+            let name = format!("{}, run of {STEPS} steps", shape(params));
             run(table, &name, &plan.start[0], &plan.schedule, goals::mixed_run(params));
         }
     }
@@ -74,6 +72,11 @@ pub fn all(params: Params, table: &mut Table) {
 /// N, K and M.
 pub fn shape(params: Params) -> String {
     format!("{} {} {}", params.processes, params.hazards, params.nodes)
+}
+
+/// What a row is called that goes over so many domains.
+pub fn name(params: Params, what: &str, domains: usize) -> String {
+    format!("{}, {what}, {domains} domain{}", shape(params), if domains == 1 { "" } else { "s in turn" })
 }
 
 fn steps(table: &mut Table, name: &str, start: &[Vec<u32>], schedule: &[(usize, Step)], goal: Option<Goal>) {
@@ -121,6 +124,6 @@ pub fn run(table: &mut Table, name: &str, start: &[u32], schedule: &[(usize, Ste
 }
 
 /// The model by itself, in fewer rounds.
-fn model(units: usize, work: &mut dyn Work) -> f64 {
+pub fn model(units: usize, work: &mut dyn Work) -> f64 {
     race(MODEL_ROUNDS, units, &mut [work])[0]
 }

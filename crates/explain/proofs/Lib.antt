@@ -1,0 +1,5 @@
+pub mod Digits
+pub mod Puts
+pub mod WordsOf
+pub mod Ways
+pub mod AtTheEdge

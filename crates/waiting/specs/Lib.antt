@@ -1,0 +1,2 @@
+-- What the contracts of `waiting` cite.
+pub mod Values

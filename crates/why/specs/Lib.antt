@@ -1,0 +1,2 @@
+-- What the contracts of `why` cite.
+pub mod Written
