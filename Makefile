@@ -21,7 +21,7 @@ bench: $(proved)/desk
 soak:
 	@tools/soak $(SECONDS)
 
-sources := $(shell find crates -name '*.rt' -o -name '*.antt') $(wildcard crates/*/stdin crates/*/stdout)
+sources := $(shell find crates -name '*.rt' -o -name '*.antt') $(wildcard crates/*/args crates/*/stdin crates/*/stdout)
 
 $(proved)/%: crates.txt $(sources)
 	@rt check $* >&2

@@ -24,13 +24,17 @@ returns-2 : tie.Need-returns-2
 returns-2 c =
     let s = c .before .before .before .before .before .before .before .pre in
     let n = processes-word s (c .before .before .bounds .ensures) in
-    lagging (decode (c .before .before .before .before .before .before .before .args .words .now)) (sym (c .before .before .before .before .before .path .ensures) ∙ c .before .before .before .before .if1 .left) (c .before .before .before .laggard .ensures) (omega (arith, n, processes-length s))
+    let fast = sym (c .before .before .before .before .before .path .ensures) ∙ c .before .before .before .before .if1 .left in
+    lagging (decode (c .before .before .before .before .before .before .before .args .words .now)) fast (c .before .before .before .laggard .ensures)
+    (omega (arith, n, processes-length s))
 
 returns-3 : tie.Need-returns-3
 returns-3 c =
     let s = c .before .before .before .before .before .before .before .pre in
     let n = processes-word s (c .before .before .bounds .ensures) in
-    nobody (decode (c .before .before .before .before .before .before .before .args .words .now)) (sym (c .before .before .before .before .before .path .ensures) ∙ c .before .before .before .before .if1 .left) (c .before .before .before .laggard .ensures) (omega (arith, n, processes-length s))
+    let fast = sym (c .before .before .before .before .before .path .ensures) ∙ c .before .before .before .before .if1 .left in
+    nobody (decode (c .before .before .before .before .before .before .before .args .words .now)) fast (c .before .before .before .laggard .ensures)
+    (omega (arith, n, processes-length s))
 
 pub behind-in-spec : {M : Type 1} → statement M
 behind-in-spec =

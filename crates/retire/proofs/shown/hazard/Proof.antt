@@ -29,8 +29,12 @@ hazard-in-requires : tie.Need-hazard-in-requires
 hazard-in-requires c κs =
     let h = c .before .before .before .before .pre in
     let few = h .0 .domain .params .hazards in
-    let k = ap (λ b. b .hazards) (c .before .before .bounds .ensures) in
-    (h .0, h .1, room (c .before .wide .result) (omega (arith, few, k, c .before .wide .ensures .0)) ∙ c .before .wide .ensures .0 ∙ k ∙ sym (head-words (c .before .before .before .before .args .words .now) .hazards))
+    let k = ap (λ b. b .hazards) (c .before .before .bounds .ensures) in (
+      h .0,
+      h .1,
+      room (c .before .wide .result) (omega (arith, few, k, c .before .wide .ensures .0))
+          ∙ c .before .wide .ensures .0 ∙ k ∙ sym (head-words (c .before .before .before .before .args .words .now) .hazards),
+    )
 
 returns : tie.Need-returns
 returns c = search needs

@@ -35,7 +35,8 @@ returns c =
     let a = c .before .before .before .before .before .before .before .before .before .args in
     let w = c .before .before .before .before .before .before .before .before .before .pre .words in
     each-other (heldIn (a .at) (a .row .now)) (a .v) (omega (arith, w .stores, w .room))
-    (c .before .before .before .before .before .before .before .other-store .ensures) (c .before .before .before .before .before .before .other-store2 .ensures) (c .before .before .before .before .before .other-store3 .ensures) (c .before .before .before .before .other-store4 .ensures)
+    (c .before .before .before .before .before .before .before .other-store .ensures) (c .before .before .before .before .before .before .other-store2 .ensures)
+    (c .before .before .before .before .before .other-store3 .ensures) (c .before .before .before .before .other-store4 .ensures)
     (c .before .before .before .other-store5 .ensures) (c .before .before .other-store6 .ensures) (c .before .other-store7 .ensures) (c .other-store8 .ensures)
 
 pub unstored-spec : {M : Type 1} → statement M
