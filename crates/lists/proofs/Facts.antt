@@ -1,8 +1,8 @@
 -- A test or a fact of every element, at a place and over changes of the list. Assumes nothing.
 use Prim.Native.Nat.{ℕ, zero, suc, _<_}
-use mathlib.Core.Bool.{Bool, true}
+use mathlib.Core.Bool.{Bool, true, _&&_, and-assoc}
 use mathlib.Core.List.{List, [], _∷_, _++_, map}
-use mathlib.Core.Path.{_≡_, refl}
+use mathlib.Core.Path.{_≡_, refl, sym, ap, _∙_}
 use native.Mathlib.Omega.{arith}
 use lib.ListN.{length, getD, set, replicate}
 use Rattle.lists.specs.Tests.{every, All}
@@ -25,11 +25,12 @@ module _ {A : Type 0} (f : A → Bool) where
   every-of [] a h = refl
   every-of (x ∷ xs) a h = rw (h 0 (omega arith), every-of xs a (λ i l. h (suc i) (omega arith)))
 
+  pub every-both : (a b : List A) → every f (a ++ b) ≡ (every f a && every f b)
+  every-both [] b = refl
+  every-both (x ∷ xs) b = ap (λ t. f x && t) (every-both xs b) ∙ sym (and-assoc (f x) (every f xs) (every f b))
+
   pub every-append : (a b : List A) → every f (a ++ b) ≡ true → (every f a ≡ true) × (every f b ≡ true)
-  every-append [] b h = (refl, h)
-  every-append (x ∷ xs) b h =
-      let u = both (f x) (every f (xs ++ b)) h in
-      let v = every-append xs b (u .1) in (rw (u .0) (v .0), v .1)
+  every-append a b h = both (every f a) (every f b) (sym (every-both a b) ∙ h)
 
 module _ {A : Type 0} (P : A → Type 0) where
   pub all-at : (l : List A) (i : ℕ) (d : A) → All P l → i < length l → P (getD l i d)

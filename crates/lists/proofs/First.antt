@@ -3,7 +3,7 @@
 use Prim.Native.Nat.{ℕ, zero, suc, _+_, _<_, _≤_}
 use mathlib.Core.Bool.{Bool, true, false, not, _&&_, cond}
 use mathlib.Core.List.{List, [], _∷_}
-use mathlib.Core.Path.{_≡_, refl, sym, ap, subst, _∙_}
+use mathlib.Core.Path.{_≡_, refl, sym, ap, _∙_}
 use native.Mathlib.Omega.{arith}
 use native.Mathlib.Nat.{add-zero}
 use native.Mathlib.Numerals.{add-one}
@@ -13,23 +13,13 @@ use lib.Dec.{ltb, eqb}
 use lib.Seq.{drop-cons, drop-length}
 use Rattle.lists.specs.Tests.{lacks, firstFrom}
 use Rattle.lists.proofs.Bools.{by-cond}
+use Rattle.lists.proofs.Turns.{further}
 
 module _ {A : Type 0} (f : ℕ → A → Bool) where
-  pub first-most : (i : ℕ) (l : List A) → firstFrom f i l ≤ i + length l
-  first-most i [] = omega arith
-  first-most i (x ∷ l) =
-      by-cond (λ n. n ≤ i + suc (length l)) (f i x) (λ _. omega arith) (λ _. omega (arith, first-most (suc i) l))
-
   first-least : (i : ℕ) (l : List A) → i ≤ firstFrom f i l
   first-least i [] = omega arith
   first-least i (x ∷ l) =
       by-cond (λ n. i ≤ n) (f i x) (λ _. omega arith) (λ _. omega (arith, first-least (suc i) l))
-
-  -- the test of a place, counted from the tail
-  further : (P : Bool → Type 0) (i j : ℕ) (x : A) → P (f (suc i + j) x) → P (f (i + suc j) x)
-  further P i j x h =
-      let e : suc i + j ≡ i + suc j = omega arith in
-      subst (λ (k : ℕ). P (f k x)) e h
 
   -- nothing before it passes
   pub first-before : (i : ℕ) (l : List A) (j : ℕ) (a : A) → i + j < firstFrom f i l → f (i + j) (getD l j a) ≡ false
@@ -41,7 +31,7 @@ module _ {A : Type 0} (f : ℕ → A → Bool) where
           → (j : ℕ) → i + j < cond b i (firstFrom f (suc i) l) → f (i + j) (getD (x ∷ l) j a) ≡ false
       by true e r j h = absurd (omega arith)
       by false e r zero h = rw (add-zero i) e
-      by false e r (suc j) h = further (λ b. b ≡ false) i j (getD l j a) (r j a (omega arith))
+      by false e r (suc j) h = further f (λ b. b ≡ false) i j (getD l j a) (r j a (omega arith))
 
   -- it passes
   pub first-at : (i : ℕ) (l : List A) (j : ℕ) (a : A) → firstFrom f i l ≡ i + j → j < length l → f (i + j) (getD l j a) ≡ true
@@ -54,7 +44,7 @@ module _ {A : Type 0} (f : ℕ → A → Bool) where
       by true e r zero q h = rw (add-zero i) e
       by true e r (suc j) q h = absurd (omega arith)
       by false e r zero q h = absurd (omega (arith, first-least (suc i) l))
-      by false e r (suc j) q h = further (λ b. b ≡ true) i j (getD l j a) (r j a (omega arith) (omega arith))
+      by false e r (suc j) q h = further f (λ b. b ≡ true) i j (getD l j a) (r j a (omega arith) (omega arith))
 
   -- nothing passes
   abbrev pub noneFrom : ℕ → List A → Bool
@@ -82,17 +72,17 @@ module _ {A : Type 0} {f : ℕ → A → Bool} {l : List A} where
   pub seek-starts : Seeking f l 0
   seek-starts = record { rest = refl }
 
+  -- it is element i or one after it, as the test of that one says
+  seek-at : {i : ℕ} (a : A) {b : Bool} → Seeking f l i → i < length l → f i (getD l i a) ≡ b
+      → cond b i (firstFrom f (suc i) (drop (suc i) l)) ≡ firstFrom f 0 l
+  seek-at {i} a s h e =
+      sym (ap (λ b. cond b i (firstFrom f (suc i) (drop (suc i) l))) e) ∙ sym (ap (firstFrom f i) (drop-cons l i a h)) ∙ s .rest
+
   pub seek-turn : {i : ℕ} (a : A) → Seeking f l i → i < length l → f i (getD l i a) ≡ false → Seeking f l (i + 1)
-  seek-turn {i} a s h e =
-      let d : drop i l ≡ getD l i a ∷ drop (suc i) l = drop-cons l i a h in
-      record {
-        rest = rw (add-one i) (sym (ap (λ b. cond b i (firstFrom f (suc i) (drop (suc i) l))) e) ∙ sym (ap (firstFrom f i) d) ∙ s .rest);
-      }
+  seek-turn {i} a s h e = record { rest = rw (add-one i) (seek-at a s h e) }
 
   pub seek-found : {i : ℕ} (a : A) → Seeking f l i → i < length l → f i (getD l i a) ≡ true → i ≡ firstFrom f 0 l
-  seek-found {i} a s h e =
-      let d : drop i l ≡ getD l i a ∷ drop (suc i) l = drop-cons l i a h in
-      sym (ap (λ b. cond b i (firstFrom f (suc i) (drop (suc i) l))) e) ∙ sym (ap (firstFrom f i) d) ∙ s .rest
+  seek-found a s h e = seek-at a s h e
 
   pub seek-ends : {i : ℕ} → Seeking f l i → i ≡ length l → i ≡ firstFrom f 0 l
   seek-ends {i} s e =

@@ -24,7 +24,7 @@ count-turn f (x ∷ xs) (suc i) d h = omega (arith, count-turn f xs i d (omega a
 
 module _ {A : Type 0} (f : ℕ → A → Bool) where
   -- the place of a test, counted from the tail
-  further : (P : Bool → Type 0) (k i : ℕ) (x : A) → P (f (suc k + i) x) → P (f (k + suc i) x)
+  pub further : (P : Bool → Type 0) (k i : ℕ) (x : A) → P (f (suc k + i) x) → P (f (k + suc i) x)
   further P k i x h = subst (λ (j : ℕ). P (f j x)) (suc-add k i ∙ sym (add-suc k i)) h
 
   pub count-from-turn : (k : ℕ) (l : List A) (i : ℕ) (d : A) → i < length l

@@ -2,7 +2,7 @@
 -- Assumes nothing.
 use Prim.Native.Nat.{ℕ, suc, _+_, _-_, _<_, _≤_}
 use mathlib.Core.Bool.{Bool, true, false, not, _&&_, cond, false≢true, Bool·not-not}
-use mathlib.Core.List.{List, [], _∷_, _++_}
+use mathlib.Core.List.{List, [], _∷_}
 use mathlib.Core.Path.{_≡_, refl, sym, ap, _∙_}
 use mathlib.Core.Logic.{_≢_, _↔_}
 use native.Mathlib.Omega.{arith}
@@ -11,9 +11,9 @@ use borrow.Author.Tests.{eqb-true, eqb-false, eq-eqb, ne-eqb, ltb-true, ltb-fals
 use borrow.Author.Tests.{not-false}
 use lib.ListN.{length, getD, List·getD-eq-default}
 use lib.Dec.{ltb, eqb}
-use Rattle.lists.specs.Tests.{every, lacks}
+use Rattle.lists.specs.Tests.{lacks}
 use Rattle.lists.proofs.Bools.{by-cond, both}
-use Rattle.lists.proofs.Facts.{every-at, inside}
+use Rattle.lists.proofs.Facts.{every-at, inside, every-both}
 use Rattle.lists.proofs.First.{first-at, first-before, first-found, noneFrom, first-lacks}
 use Rattle.lists.proofs.Sweeps.{sweep-is}
 use Rattle.model.specs.Params.{delay}
@@ -29,14 +29,6 @@ use Rattle.model.proofs.WellFormed.{process-fits}
 use Rattle.model.proofs.Unclaimed.{visible-length}
 
 -- ---- what the owner sees
-
-every-both : (f : ℕ → Bool) (a b : List ℕ) → every f (a ++ b) ≡ (every f a && every f b)
-every-both f [] b = refl
-every-both f (x ∷ a) b = by (f x) (every-both f a b)
-  where
-    by : (y : Bool) → every f (a ++ b) ≡ (every f a && every f b) → (y && every f (a ++ b)) ≡ ((y && every f a) && every f b)
-    by true e = e
-    by false e = refl
 
 none-shown : (p v i : ℕ) (ps : List Process) → noneFrom (shows p v) i ps ≡ lacks (visibleFrom p i ps) v
 none-shown p v i [] = refl

@@ -21,7 +21,8 @@ ghost use Rattle.replay.specs.Turn.{endOf};
 // Takes the steps one after another, the first at an offset. The words are sound, so no step checks them again.
 fn take_steps(words: &mut [u32], bytes: &[u8], first: usize, count: u32)
     requires { ⌜ Sound (now words) × (first + stepSize * count ≤ length (now bytes)) × (count ≤ mostSteps) ⌝ }
-    ensures { λ _. ⌜ Sound (now (words .exit)) × (decode (now (words .exit)) ≡ run (decode (now (words .entry))) (stepsFrom (now (bytes .entry)) first count)) ⌝ }
+    ensures { λ _. ⌜ Sound (now (words .exit)) ⌝ }
+    ensures { λ _. ⌜ decode (now (words .exit)) ≡ run (decode (now (words .entry))) (stepsFrom (now (bytes .entry)) first count) ⌝ }
 {
     let mut i: u32 = 0;
     while i < count {
