@@ -7,6 +7,7 @@
 #include "hazards.h"
 #include "leave.h"
 #include "nodes.h"
+#include "portion.h"
 #include "retire.h"
 #include "why.h"
 #include "words.h"
@@ -36,6 +37,7 @@ static qsense_answer step_known(uint32_t *w, uint32_t kind, uint32_t p, uint32_t
     case REINSERT: return reinsert(w, p, c);
     case LEAVE: return leave(w, p, c);
     case JOIN: return join(w, p);
+    case PORTION: return portion_step(w, p, c, guest);
     default: clear_presence(w); return accepted(0);
     }
 }
@@ -63,7 +65,7 @@ qsense_answer plain_step(uint32_t *words, size_t len, uint32_t kind, uint32_t pr
     return step_known(words, kind, process, hazard, node, guest);
 }
 
-/* Not inlined: else plain_why would call the check that counts, which takes longer. */
+/* Not inlined: else plain_why and plain_portion would call the check that counts, which takes longer. */
 __attribute__((noinline)) bool plain_well_formed(const uint32_t *words, size_t len) {
     return well_formed(words, len);
 }
@@ -84,6 +86,15 @@ qsense_answer plain_reachable_in_two(const uint32_t *words, size_t len) {
 qsense_why_answer plain_why(const uint32_t *words, size_t len, uint32_t node) {
     if (!plain_well_formed(words, len)) return (qsense_why_answer){.refusal = 3};
     return why(words, len, node);
+}
+
+qsense_portion_answer plain_portion(uint32_t *words, size_t len, uint32_t process, uint32_t start, uint32_t limit) {
+    if (!plain_well_formed(words, len)) return (qsense_portion_answer){.refusal = 3};
+    if (process >= words[N]) return (qsense_portion_answer){.refusal = 5};
+    if (process_at(words, process)[PRESENT] == 0) return (qsense_portion_answer){.refusal = 20};
+    qsense_portion_answer a = portion(words, process, start, limit);
+    if (a.refusal == 0) a.left = retired_from(words, process, a.next);
+    return a;
 }
 
 static bool fit(size_t steps_len, size_t answers_len) {

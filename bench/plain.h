@@ -10,6 +10,7 @@ qsense_answer plain_make(uint32_t *words, size_t len, uint32_t n, uint32_t k, ui
 qsense_answer plain_step(uint32_t *words, size_t len, uint32_t kind, uint32_t process, uint32_t hazard, uint32_t node, uint32_t guest);
 bool plain_run(uint32_t *words, size_t len, const uint32_t *steps, size_t steps_len, uint32_t *answers, size_t answers_len);
 qsense_why_answer plain_why(const uint32_t *words, size_t len, uint32_t node);
+qsense_portion_answer plain_portion(uint32_t *words, size_t len, uint32_t process, uint32_t start, uint32_t limit);
 
 /* Whether the words are those of a well-formed domain. */
 bool plain_well_formed(const uint32_t *words, size_t len);

@@ -24,6 +24,10 @@ qsense_why_answer qsense_why(const uint32_t *words, size_t len, uint32_t node) {
     return plain_why(words, len, node);
 }
 
+qsense_portion_answer qsense_portion(uint32_t *words, size_t len, uint32_t process, uint32_t start, uint32_t limit) {
+    return plain_portion(words, len, process, start, limit);
+}
+
 bool qsense_run(uint32_t *words, size_t len, const uint32_t *steps, size_t steps_len, uint32_t *answers, size_t answers_len) {
     return plain_run(words, len, steps, steps_len, answers, answers_len);
 }

@@ -12,8 +12,8 @@ enum { STATE, OWNER, GUEST, RETIRED_AT, LIMBO, NODE };            /* of a node *
 enum { FREE, ALLOCATED, REACHABLE, REMOVED, RETIRED };            /* states of a node */
 enum { FAST, FALLBACK };
 enum { ALLOCATE = 1, PUBLISH, PROTECT, CHECK, USE, CLEAR, REMOVE, RETIRE, DRAIN, FLUSH, TICK, MANAGE, CLEAR_PRESENCE,
-       REINSERT, LEAVE, JOIN, PAST_KINDS };                       /* kinds, and the number past the last */
-enum { STORES = 8, MAX_HAZARDS = 8, MAX_NODES = 256 };
+       REINSERT, LEAVE, JOIN, PORTION, PAST_KINDS };              /* kinds, and the number past the last */
+enum { STORES = 8, MAX_HAZARDS = 8, MAX_NODES = 256, MAX_LIMIT = 256 };
 
 static qsense_answer refused(uint32_t number) {
     return (qsense_answer){number, 0};

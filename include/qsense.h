@@ -60,19 +60,23 @@ qsense_answer qsense_make(uint32_t *words, size_t len, uint32_t n, uint32_t k, u
  *   14  reinsert (process, node)           Removed to Reachable, without an owner
  *   15  leave (process, heir)              the process is absent; its Retired nodes are the heir's, as if retired by it now
  *   16  join (process)                     the process is present again, at the global epoch
- * The heir of a leave is a second process, and stands in the field of the node. An absent process takes no step but a join; neither the
- * global epoch nor the way back to the fast path waits for it. Its hazards and its pending stores still count.
+ *   17  portion (process, start, limit)    a scan of at most so many nodes from a node on; value: nodes freed
+ * The heir of a leave is a second process, and stands in the field of the node. The start of a portion is a node and stands there too; its
+ * limit stands in the field of the guest. An absent process takes no step but a join; neither the global epoch nor the way back to the fast
+ * path waits for it. Its hazards and its pending stores still count.
  * A scan frees the Retired nodes of the process that were retired more than T + E ticks ago and that it sees in no hazard: its own hazards
- * count as the node of the last pending store to them, or else as the visible one, those of others as the visible one.
+ * count as the node of the last pending store to them, or else as the visible one, those of others as the visible one. A portion does the
+ * same to a part of them, on either path, and switches none; qsense_portion says to which.
  * The value is 0 where none is named. Refused at the first no, in this order, with value 0 and no word changed:
  *    3  the words are a well-formed domain
- *    4  the kind is 1 to 16
+ *    4  the kind is 1 to 17
  *    5  the process is below N (all but 11 and 13)
  *   20  the process is present (all but 11, 13 and 16), absent (16)
  *   21  the process has no node assigned to a hazard, no pending store, and no Allocated or Removed node (15)
  *   22  the heir is below N, another process, and present (15)
  *    6  the hazard is below K (3 to 6)
- *    7  the node is below M (1, 2, 3, 7, 8, 14)
+ *    7  the node is below M (1, 2, 3, 7, 8, 14), and the start (17)
+ *   23  the limit is 1 to 256 (17)
  *    8  the node is Free (1), Allocated (2), Reachable (7), Removed (8, 14)
  *    9  the process owns it (2, 8, 14)
  *   10  the hazard has a node assigned (4)
@@ -120,6 +124,33 @@ typedef struct {
  *   3  the words are a well-formed domain
  *   7  the node is below M */
 qsense_why_answer qsense_why(const uint32_t *words, size_t len, uint32_t node);
+
+/* What a portion of a scan did. All numbers after the first are 0 where it is not.
+ *   refusal         0, or 3, 5, 20, 7 or 23
+ *   freed           how many of the examined nodes were freed
+ *   examined        how many Retired nodes of the process were met, before the step, from the start up to next, which is left out
+ *   next            the node to go on from: the one after the last that was examined, if those were as many as the limit; else M
+ *   left            how many Retired nodes the process still has from next upward */
+typedef struct {
+    uint32_t refusal;
+    uint32_t freed;
+    uint32_t examined;
+    uint32_t next;
+    uint32_t left;
+} qsense_portion_answer;
+
+/* Takes a step of kind 17, a portion of a scan, and says how far it came; words and freed are those of qsense_step. It goes over the nodes
+ * from start upward and examines the Retired ones of the process, until it has examined as many as the limit or there are no more nodes.
+ * Of those it frees what a scan by the process frees.
+ * Where it is accepted next is greater than start, so a caller that goes on from next until it is M comes to an end; such portions from 0
+ * to M, with no other step between them, leave the words that one whole scan leaves. Refused at the first no, in this order, with every other number 0 and no
+ * word changed:
+ *    3  the words are a well-formed domain
+ *    5  the process is below N
+ *   20  the process is present
+ *    7  the start is below M
+ *   23  the limit is 1 to 256 */
+qsense_portion_answer qsense_portion(uint32_t *words, size_t len, uint32_t process, uint32_t start, uint32_t limit);
 
 /* Takes a list of steps, five words each in the order of qsense_step, and writes an answer for each, two words each: refusal, value.
  * Answers and words are those of qsense_step called for one after another, with its numbers; the words are checked once.

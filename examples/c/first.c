@@ -1,4 +1,5 @@
-/* One process publishes a node, another claims and uses it; then the first retires it and asks why it waits. */
+/* One process publishes a node, another claims and uses it; then the first retires it, asks why it waits, and frees it by a scan in
+ * portions. */
 #include "qsense.h"
 #include <stdio.h>
 
@@ -22,5 +23,13 @@ int main(void) {
     qsense_why_answer seen = qsense_why(words, len, 0);            /* 3: old enough, and visible in a hazard */
     printf("why %u, %u ticks; ", young.answer, young.ticks);
     printf("then why %u, process %u, hazard %u\n", seen.answer, seen.process, seen.hazard);
+    qsense_step(words, len, 6, 1, 0, 0, 0);                        /* process 1 clears its hazard */
+    qsense_step(words, len, 10, 1, 0, 0, 0);                       /* and flushes that store */
+    for (uint32_t node = 0; node < 2;) {                           /* process 0 scans, one node a portion, to the last of 2 */
+        qsense_portion_answer part = qsense_portion(words, len, 0, node, 1);
+        if (part.refusal != 0) return 1;
+        printf("from %u: freed %u, examined %u, next %u, left %u\n", node, part.freed, part.examined, part.next, part.left);
+        node = part.next;                                          /* other steps may come between */
+    }
     return 0;
 }

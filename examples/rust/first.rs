@@ -1,4 +1,5 @@
-//! One process publishes a node, another claims and uses it; then the first retires it and asks why it waits.
+//! One process publishes a node, another claims and uses it; then the first retires it, asks why it waits, and frees it by a scan in
+//! portions.
 
 #[repr(C)]
 struct Answer {
@@ -18,6 +19,15 @@ struct Why {
     behind_process: u32,
 }
 
+#[repr(C)]
+struct Portion {
+    refusal: u32,
+    freed: u32,
+    examined: u32,
+    next: u32,
+    left: u32,
+}
+
 // as in include/qsense.h
 extern "C" {
     fn qsense_length(n: u32, k: u32, m: u32) -> u32;
@@ -25,6 +35,7 @@ extern "C" {
     fn qsense_step(words: *mut u32, len: usize, kind: u32, process: u32, hazard: u32, node: u32, guest: u32) -> Answer;
     fn qsense_reachable(words: *const u32, len: usize) -> Answer;
     fn qsense_why(words: *const u32, len: usize, node: u32) -> Why;
+    fn qsense_portion(words: *mut u32, len: usize, process: u32, start: u32, limit: u32) -> Portion;
 }
 
 fn step(words: &mut [u32], [kind, process, hazard, node, guest]: [u32; 5]) -> Answer {
@@ -33,6 +44,10 @@ fn step(words: &mut [u32], [kind, process, hazard, node, guest]: [u32; 5]) -> An
 
 fn why(words: &[u32], node: u32) -> Why {
     unsafe { qsense_why(words.as_ptr(), words.len(), node) }
+}
+
+fn portion(words: &mut [u32], process: u32, start: u32, limit: u32) -> Portion {
+    unsafe { qsense_portion(words.as_mut_ptr(), words.len(), process, start, limit) }
 }
 
 fn main() {
@@ -56,4 +71,14 @@ fn main() {
     let seen = why(words, 0); // 3: old enough, and visible in a hazard
     print!("why {}, {} ticks; ", young.answer, young.ticks);
     println!("then why {}, process {}, hazard {}", seen.answer, seen.process, seen.hazard);
+    step(words, [6, 1, 0, 0, 0]); // process 1 clears its hazard
+    step(words, [10, 1, 0, 0, 0]); // and flushes that store
+    let mut node = 0;
+    while node < 2 {
+        let part = portion(words, 0, node, 1); // process 0 scans, one node a portion, to the last of 2
+        assert_eq!(part.refusal, 0);
+        let Portion { freed, examined, next, left, .. } = part;
+        println!("from {node}: freed {freed}, examined {examined}, next {next}, left {left}");
+        node = next; // other steps may come between
+    }
 }

@@ -67,6 +67,11 @@ fn step(bytes: &[u8]) -> Step {
     Step { kind, process, hazard, node: word(bytes, 4), guest: word(bytes, 8) }
 }
 
+/// The steps of a book.
+pub fn steps(bytes: &[u8]) -> Result<Vec<Step>, u32> {
+    Ok(read(bytes)?.1)
+}
+
 /// The first so many steps of a book, as a book.
 pub fn cut(bytes: &[u8], count: usize) -> Result<Vec<u8>, u32> {
     let (params, steps) = read(bytes)?;

@@ -6,9 +6,11 @@ use crate::library::{Calls, Lent};
 use crate::model::domain::Domain;
 use crate::model::mistake::Rules;
 use crate::model::panel::reachable_words;
+use crate::model::portion::portion_words;
 use crate::model::why::why_words;
 use crate::model::{step_words, words, Model};
 use crate::params::Params;
+use crate::portion::{Portion, PortionAnswer};
 use crate::reference::Reference;
 use crate::step::{Answer, Kind, Step};
 use crate::why::Why;
@@ -52,6 +54,9 @@ impl<'a> Lockstep<'a> {
     }
 
     pub fn step(&mut self, step: Step, coverage: &mut Coverage) -> Result<(), String> {
+        if let Some(asked) = Portion::of(step) {
+            self.portion(asked, coverage)?;
+        }
         coverage.before(&self.model.domain, step);
         let expected = self.model.step(step);
         let answer = self.calls.step(self.lent.words_mut(), step);
@@ -95,6 +100,15 @@ impl<'a> Lockstep<'a> {
         unchanged("why", &self.lent, &self.expected)
     }
 
+    /// A portion of what there is now, which stays as it is.
+    pub fn portion(&self, asked: Portion, coverage: &mut Coverage) -> Result<(), String> {
+        let mut model = Model { rules: self.model.rules, domain: self.model.domain.clone() };
+        let expected = model.portion(asked);
+        same_portion(self.calls, self.lent.words(), asked, expected, &words::words_of(&model.domain))?;
+        coverage.examined(&self.model.domain, asked, expected, &model.domain);
+        Ok(())
+    }
+
     fn agree(&mut self, call: &str, answer: Answer, expected: Answer) -> Result<(), String> {
         words::encode(&self.model.domain, &mut self.expected);
         same(call, answer, &self.lent, expected, &self.expected)
@@ -118,7 +132,26 @@ pub fn same_why(calls: &Calls, lent: &Lent, node: u32, expected: Why) -> Result<
     }
 }
 
-/// One step, and before it the reachable counts, the check, and why some nodes wait, the last and those past it among them: on any words.
+/// Whether a portion of these words is answered and leaves what was expected, and the same as a step.
+pub fn same_portion(
+    calls: &Calls,
+    start: &[u32],
+    asked: Portion,
+    expected: PortionAnswer,
+    after: &[u32],
+) -> Result<(), String> {
+    let (mut lent, mut stepped) = (Lent::new(start), Lent::new(start));
+    let found = calls.portion(lent.words_mut(), asked);
+    if found != expected {
+        return Err(format!("{asked}: {found}, expected {expected}"));
+    }
+    unchanged("portion", &lent, after)?;
+    let answer = calls.step(stepped.words_mut(), asked.step());
+    same("portion as a step", answer, &stepped, expected.as_step(), after)
+}
+
+/// One step, and before it the reachable counts, the check, why some nodes wait, the last and those past it among them, and two portions
+/// of copies: on any words.
 pub fn on_words(calls: &Calls, rules: Rules, start: &[u32], step: Step) -> Result<Answer, String> {
     let mut lent = Lent::new(start);
     let (mut expected, expected_panel) = (start.to_vec(), reachable_words(start, rules));
@@ -135,6 +168,11 @@ pub fn on_words(calls: &Calls, rules: Rules, start: &[u32], step: Step) -> Resul
         same_why(calls, &lent, node, why)?;
     }
     unchanged("why", &lent, start)?;
+    for asked in [Portion::new(step.process, step.node, 1 + step.guest % 256), Portion::new(0, m, 0)] {
+        let mut after = start.to_vec();
+        let expected = portion_words(&mut after, asked, rules);
+        same_portion(calls, start, asked, expected, &after)?;
+    }
     let expected_answer = step_words(&mut expected, step, rules);
     let answer = calls.step(lent.words_mut(), step);
     same("step", answer, &lent, expected_answer, &expected)?;

@@ -10,6 +10,7 @@ pub mod layout;
 pub mod library;
 pub mod model;
 pub mod params;
+pub mod portion;
 pub mod random;
 pub mod reference;
 pub mod report;

@@ -1,6 +1,7 @@
 //! The calls under test: the library's with those of crate bench_c, and those of plain C, which take and answer the same.
 
 use crate::params::Params;
+use crate::portion::{Portion, PortionAnswer};
 use crate::step::{Answer, Kind, Step};
 use crate::why::WhyAnswer;
 
@@ -9,6 +10,7 @@ type Make = unsafe extern "C" fn(*mut u32, usize, u32, u32, u32, u32, u32, u32, 
 type StepCall = unsafe extern "C" fn(*mut u32, usize, u32, u32, u32, u32, u32) -> Answer;
 type Reachable = unsafe extern "C" fn(*const u32, usize) -> Answer;
 type Why = unsafe extern "C" fn(*const u32, usize, u32) -> WhyAnswer;
+type PortionCall = unsafe extern "C" fn(*mut u32, usize, u32, u32, u32) -> PortionAnswer;
 type WellFormed = unsafe extern "C" fn(*const u32, usize) -> bool;
 type Run = unsafe extern "C" fn(*mut u32, usize, *const u32, usize, *mut u32, usize) -> bool;
 
@@ -19,6 +21,7 @@ extern "C" {
     fn qsense_step(w: *mut u32, len: usize, kind: u32, process: u32, hazard: u32, node: u32, guest: u32) -> Answer;
     fn qsense_reachable(w: *const u32, len: usize) -> Answer;
     fn qsense_why(w: *const u32, len: usize, node: u32) -> WhyAnswer;
+    fn qsense_portion(w: *mut u32, len: usize, process: u32, start: u32, limit: u32) -> PortionAnswer;
     fn qsense_run(w: *mut u32, len: usize, s: *const u32, s_len: usize, a: *mut u32, a_len: usize) -> bool;
     fn bench_reachable_in_two(w: *const u32, len: usize) -> Answer;
     fn bench_well_formed(w: *const u32, len: usize) -> bool;
@@ -29,6 +32,7 @@ extern "C" {
     fn plain_reachable_in_two(w: *const u32, len: usize) -> Answer;
     fn plain_well_formed(w: *const u32, len: usize) -> bool;
     fn plain_why(w: *const u32, len: usize, node: u32) -> WhyAnswer;
+    fn plain_portion(w: *mut u32, len: usize, process: u32, start: u32, limit: u32) -> PortionAnswer;
     fn plain_run(w: *mut u32, len: usize, s: *const u32, s_len: usize, a: *mut u32, a_len: usize) -> bool;
     fn plain_run_trusting(w: *mut u32, len: usize, s: *const u32, s_len: usize, a: *mut u32, a_len: usize) -> bool;
 }
@@ -42,6 +46,7 @@ pub struct Calls {
     reachable_in_two: Reachable,
     well_formed: WellFormed,
     why: Why,
+    portion: PortionCall,
     run: Run,
 }
 
@@ -53,6 +58,7 @@ pub static QSENSE: Calls = Calls {
     reachable_in_two: bench_reachable_in_two,
     well_formed: bench_well_formed,
     why: qsense_why,
+    portion: qsense_portion,
     run: qsense_run,
 };
 
@@ -64,6 +70,7 @@ pub static PLAIN: Calls = Calls {
     reachable_in_two: plain_reachable_in_two,
     well_formed: plain_well_formed,
     why: plain_why,
+    portion: plain_portion,
     run: plain_run,
 };
 
@@ -101,6 +108,10 @@ impl Calls {
         unsafe { (self.why)(words.as_ptr(), words.len(), node) }
     }
 
+    pub fn portion(&self, words: &mut [u32], Portion { process, start, limit }: Portion) -> PortionAnswer {
+        unsafe { (self.portion)(words.as_mut_ptr(), words.len(), process, start, limit) }
+    }
+
     /// The same calls, but that reachable goes in two passes.
     pub fn in_two(&self) -> Calls {
         Calls { reachable: self.reachable_in_two, ..*self }
@@ -116,16 +127,17 @@ impl Calls {
         unsafe { (self.run)(words.as_mut_ptr(), words.len(), s, steps.len(), a, answers.len()) }
     }
 
-    /// Each call on a null pointer with length 0: the answers of make, step and reachable, in one pass and in two, that of why, and
-    /// whether an empty run was taken.
-    pub fn on_nothing(&self) -> ([Answer; 4], WhyAnswer, bool) {
+    /// Each call on a null pointer with length 0: the answers of make, step and reachable, in one pass and in two, those of why and of a
+    /// portion, and whether an empty run was taken.
+    pub fn on_nothing(&self) -> ([Answer; 4], WhyAnswer, PortionAnswer, bool) {
         let (none, no) = (std::ptr::null_mut(), std::ptr::null());
         unsafe {
             let [n, k, m, t, q, c, e] = Params::LEAST.numbers();
             let made = (self.make)(none, 0, n, k, m, t, q, c, e);
             let stepped = (self.step)(none, 0, Kind::ClearPresence as u32, 0, 0, 0, 0);
             let answers = [made, stepped, (self.reachable)(no, 0), (self.reachable_in_two)(no, 0)];
-            (answers, (self.why)(no, 0, 0), (self.run)(none, 0, no, 0, none, 0))
+            let portion = (self.portion)(none, 0, 0, 0, 1);
+            (answers, (self.why)(no, 0, 0), portion, (self.run)(none, 0, no, 0, none, 0))
         }
     }
 }

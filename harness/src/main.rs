@@ -9,7 +9,8 @@ use harness::library::{PLAIN, QSENSE};
 use harness::model::mistake::Rules;
 use harness::report::Report;
 use harness::tests::{
-    books, edges, examples, late, leaving, make, malformed, mistakes, panel, runs, schedules, why, why_lines,
+    books, edges, examples, late, leaving, make, malformed, mistakes, panel, portion_runs, portions, runs, schedules,
+    why, why_lines,
 };
 use std::path::PathBuf;
 use std::process::ExitCode;
@@ -110,6 +111,8 @@ fn test(options: &Options) -> ExitCode {
     report.test("no words at all", || malformed::nothing(&QSENSE));
     panel::all(&mut report, &QSENSE, seed);
     why::all(&mut report, &QSENSE, seed);
+    portions::all(&mut report, &QSENSE);
+    portion_runs::all(&mut report, &QSENSE, seed);
     report.test("every count met", || schedules::covered(&coverage, options.steps / 6_000));
     report.test("run as steps one by one", || runs::one_by_one(&QSENSE, seed, 3_000));
     report.test("run with lengths that do not fit", || runs::wrong_lengths(&QSENSE, seed));

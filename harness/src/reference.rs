@@ -54,7 +54,7 @@ impl Reference {
     pub fn follow(&mut self, step: Step, answer: Answer, words: &[u32]) -> Result<(), String> {
         if answer.refusal == 0 {
             self.accepted(step, answer.value)?;
-            let frees = if matches!(step.kind, 8 | 12) { answer.value } else { 0 };
+            let frees = if matches!(step.kind, 8 | 12 | 17) { answer.value } else { 0 };
             self.free(frees, words)?;
         }
         self.agrees(words)?;
@@ -89,13 +89,14 @@ impl Reference {
         Ok(())
     }
 
-    /// Questions 5 to 7, on steps 1 to 8 and 14 to 16.
+    /// Questions 5 to 7 and 23, on steps 1 to 8 and 14 to 17.
     fn asks_ranges(&self, step: Step) -> Result<(), String> {
         let reads_hazard = matches!(step.kind, 3..=6);
-        let reads_node = matches!(step.kind, 1..=3 | 7 | 8 | 14);
-        let wrong = (matches!(step.kind, 1..=8 | 14..=16) && step.process >= self.params.processes)
+        let reads_node = matches!(step.kind, 1..=3 | 7 | 8 | 14 | 17);
+        let wrong = (matches!(step.kind, 1..=8 | 14..=17) && step.process >= self.params.processes)
             || (reads_hazard && step.hazard >= self.params.hazards)
-            || (reads_node && step.node >= self.params.nodes);
+            || (reads_node && step.node >= self.params.nodes)
+            || (step.kind == 17 && !(1..=256).contains(&step.guest));
         match wrong {
             true => Err("a number out of range was accepted".into()),
             false => Ok(()),

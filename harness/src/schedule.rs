@@ -2,6 +2,8 @@
 
 use crate::model::domain::{Domain, Hazard, Node, Process};
 use crate::model::Model;
+use crate::params::Params;
+use crate::portion::Portion;
 use crate::random::Random;
 use crate::step::{Field, Kind, State, Step};
 
@@ -37,6 +39,10 @@ impl Mood {
             for kind in [Kind::Tick, Kind::Flush] {
                 weights[kind as usize - 1] *= 4;
             }
+        }
+        if random.chance(30) {
+            // scans in portions, of nodes that have grown old on the fast path
+            weights[Kind::Portion as usize - 1] *= 4;
         }
         if random.chance(50) {
             weights[Kind::ClearPresence as usize - 1] = 0;
@@ -115,6 +121,7 @@ fn likely(random: &mut Random, domain: &Domain, kind: Kind) -> Step {
             step.process = leaver(random, domain);
             step.node = heir(random, domain, step.process);
         }
+        Kind::Portion => step = portion(random, domain).step(),
         _ => {}
     }
     step
@@ -142,9 +149,8 @@ fn may_act(kind: Kind, process: &Process) -> bool {
 /// A process that may leave, one with Retired nodes in half of the cases.
 fn leaver(random: &mut Random, domain: &Domain) -> u32 {
     let any = random.chance(50);
-    let has_retired = |id| domain.nodes.iter().any(|node| node.is_retired() && node.owner() == Some(id));
     place_where(random, domain.params.processes, |id| {
-        domain.process(id).present && domain.ties(id) == [false; 4] && (any || has_retired(id))
+        domain.process(id).present && domain.ties(id) == [false; 4] && (any || domain.retired_by(id) > 0)
     })
 }
 
@@ -152,6 +158,52 @@ fn leaver(random: &mut Random, domain: &Domain) -> u32 {
 fn heir(random: &mut Random, domain: &Domain, leaver: u32) -> u32 {
     let any = random.chance(25);
     place_where(random, domain.params.processes, |id| any || domain.process(id).present && id != leaver)
+}
+
+/// A portion mostly of a process with Retired nodes, from the first node, from a Retired one or from any, with a limit about as many.
+pub fn portion(random: &mut Random, domain: &Domain) -> Portion {
+    let (nodes, any) = (domain.params.nodes, random.chance(15));
+    let has_retired = |id| domain.process(id).present && domain.retired_by(id) > 0;
+    let process = place_where(random, domain.params.processes, |id| any || has_retired(id));
+    let start = match random.below(4) {
+        0 => 0,
+        1 => random.below(nodes),
+        _ => node_where(random, domain, |node| node.is_retired() && node.owner() == Some(process)),
+    };
+    let [least, most] = Portion::LIMITS;
+    let limit = match random.below(8) {
+        0..=1 => 1 + random.below(3),
+        2 => 8,
+        3 => most,
+        4 => (*random.of(&[domain.retired_by(process), nodes - start])).clamp(least, most),
+        _ => 1 + random.up_to(domain.retired_by(process).min(most - 1)),
+    };
+    Portion { process, start, limit }
+}
+
+/// A portion with each number in and out of its range.
+pub fn any_portion(random: &mut Random, params: Params) -> Portion {
+    let (process, start) = (any_below(random, params.processes), any_below(random, params.nodes));
+    Portion { process, start, limit: any_limit(random) }
+}
+
+/// A number mostly below a limit.
+fn any_below(random: &mut Random, limit: u32) -> u32 {
+    match random.below(16) {
+        0 => limit,
+        1 => u32::MAX,
+        _ => random.below(limit),
+    }
+}
+
+/// A limit in and out of its range.
+fn any_limit(random: &mut Random) -> u32 {
+    let [least, most] = Portion::LIMITS;
+    match random.below(4) {
+        0 => *random.of(&[least - 1, most + 1, u32::MAX, 1 << 31, most << 8]),
+        1 => *random.of(&[least, most]),
+        _ => 1 + random.below(most),
+    }
 }
 
 fn at_hazard(random: &mut Random, domain: &Domain, step: &mut Step, fits: impl Fn(&Hazard) -> bool) {
@@ -162,14 +214,11 @@ fn at_hazard(random: &mut Random, domain: &Domain, step: &mut Step, fits: impl F
 /// Fields in and out of range, and now and then a kind that is none.
 fn anything(random: &mut Random, model: &Model, kind: Kind) -> Step {
     let params = model.domain.params;
-    let mut field = |limit: u32| match random.below(16) {
-        0 => limit,
-        1 => u32::MAX,
-        _ => random.below(limit),
-    };
+    let mut field = |limit| any_below(random, limit);
     let nodes = if kind.row().heir { params.processes } else { params.nodes };
     let (process, hazard, node) = (field(params.processes), field(params.hazards), field(nodes));
-    let mut step = Step::new(kind, process, hazard, node, random.word());
+    let guest = if kind == Kind::Portion { any_limit(random) } else { random.word() };
+    let mut step = Step::new(kind, process, hazard, node, guest);
     if random.chance(8) {
         let next = Kind::LAST as u32 + 1;
         step.kind = *random.of(&[0, next, next + 5, 255, 256 + kind as u32, u32::MAX]);

@@ -162,6 +162,8 @@ kinds! {
     14 Reinsert [Process Node] 3 needs(Removed) owns();
     15 Leave [Process Node] 2 heir();
     16 Join [Process] 3;
+    /// the node is the start, the guest the limit
+    17 Portion [Process Node Guest] 1;
 }
 
 impl Kind {

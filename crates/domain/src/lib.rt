@@ -10,6 +10,7 @@ use layout::Params;
 use layout::ProcessId;
 use layout::words::head_word;
 use layout::words::most;
+use nodes::portions::End;
 ghost use mathlib.Core.Path.{_≡_};
 ghost use Prim.Native.Nat.{_+_, _-_, _<_, _≤_};
 ghost use lib.ListN.{length};
@@ -18,6 +19,7 @@ ghost use Rattle.lists.specs.Tests.{every, count};
 ghost use Rattle.model.specs.Params.{delay};
 ghost use Rattle.model.specs.State.{nodeOf, setNode, withClock, withPath, withEpoch};
 ghost use Rattle.model.specs.Retire.{retiredBy, freeing};
+ghost use Rattle.model.specs.Portion.{nodesFrom};
 ghost use Rattle.model.specs.Epochs.{expired};
 ghost use Rattle.model.specs.Leave.{underWay, handOver};
 ghost use Rattle.model.specs.Claims.{reachableCount};
@@ -25,6 +27,7 @@ ghost use Rattle.layout.specs.Shape.{nodesStart};
 ghost use Rattle.layout.specs.Encode.{shape, decode, paramsIn};
 ghost use Rattle.layout.specs.Sound.{Sound};
 ghost use Rattle.layout.specs.Values.{paramsValue, nodeValue};
+ghost use Rattle.nodes.specs.Portions.{Reached};
 ghost use Rattle.domain.specs.Effects.{Does, changed, unmarked};
 
 // ---- the head
@@ -144,14 +147,24 @@ pub fn reachable_count(words: &[u32]) -> u32
     nodes::counts::reachable_count(&words[a..], m)
 }
 
-// How many Retired nodes process p has.
-pub fn retired_count(words: &[u32], p: ProcessId) -> u32
-    requires { ⌜ Sound (now words) ⌝ }
-    ensures { λ r. ⌜ r ≡ count (retiredBy (p .0)) (decode (now (words .entry)) .nodes) ⌝ }
+// How many Retired nodes process p has, from node `from` on.
+pub fn retired_count(words: &[u32], p: ProcessId, from: u32) -> u32
+    requires { ⌜ Sound (now words) × (from ≤ paramsIn (now words) .nodes) ⌝ }
+    ensures { λ r. ⌜ r ≡ count (retiredBy (p .0)) (nodesFrom (decode (now (words .entry))) from) ⌝ }
 {
     let m = words[head_word::NODES];
     let a = nodes_at(words);
-    nodes::counts::retired_count(&words[a..], m, p)
+    nodes::counts::retired_count(&words[a..], m, p, from)
+}
+
+// Where a portion of a scan by process p ends that starts at node c.
+pub fn reach(words: &[u32], p: ProcessId, c: NodeId, limit: u32) -> End
+    requires { ⌜ Sound (now words) × (c .0 < paramsIn (now words) .nodes) ⌝ }
+    ensures { λ r. ⌜ Reached (retiredBy (p .0)) limit (c .0) (paramsIn (now (words .entry)) .nodes) (decode (now (words .entry)) .nodes) r ⌝ }
+{
+    let m = words[head_word::NODES];
+    let a = nodes_at(words);
+    nodes::portions::reach(&words[a..], m, p, c.0, limit)
 }
 
 // Has process p no node under way?

@@ -13,7 +13,7 @@ use Rattle.lists.specs.Table.{tableFrom}
 use Rattle.lists.proofs.Table.{table-at}
 use Rattle.model.specs.Kinds.{Kind, kinds, kindCount, kindOf, is, meets, rank, rowOf, Allocate, Publish, Protect}
 use Rattle.model.specs.Kinds.{Check, Use, Clear, Remove, Retire, Drain, Flush, Tick, Manage, ClearPresence}
-use Rattle.model.specs.Kinds.{Reinsert, Leave, Join, Unknown}
+use Rattle.model.specs.Kinds.{Reinsert, Leave, Join, Portion, Unknown}
 use Rattle.kinds.specs.Table.{neededCode, rowCode, guestCode}
 use Rattle.kinds.specs.declared.Row.{Row}
 
@@ -28,12 +28,12 @@ unknown (suc n) h = let over : kindCount ≤ n = omega arith in List·getD-eq-de
 
 -- a number that is none of the kinds'
 pub none-of : (n : ℕ) → n ≢ 1 → n ≢ 2 → n ≢ 3 → n ≢ 4 → n ≢ 5 → n ≢ 6 → n ≢ 7 → n ≢ 8 → n ≢ 9 → n ≢ 10 → n ≢ 11 → n ≢ 12 → n ≢ 13
-    → n ≢ 14 → n ≢ 15 → n ≢ 16 → kindOf n ≡ Unknown
-none-of zero h1 h2 h3 h4 h5 h6 h7 h8 h9 h10 h11 h12 h13 h14 h15 h16 = refl
-none-of (suc n) h1 h2 h3 h4 h5 h6 h7 h8 h9 h10 h11 h12 h13 h14 h15 h16 =
+    → n ≢ 14 → n ≢ 15 → n ≢ 16 → n ≢ 17 → kindOf n ≡ Unknown
+none-of zero h1 h2 h3 h4 h5 h6 h7 h8 h9 h10 h11 h12 h13 h14 h15 h16 h17 = refl
+none-of (suc n) h1 h2 h3 h4 h5 h6 h7 h8 h9 h10 h11 h12 h13 h14 h15 h16 h17 =
     unknown (suc n)
-    (past (past (past (past (past (past (past (past (past (past (past (past (past (past (past (past (zero-lt-suc n)
-    h1) h2) h3) h4) h5) h6) h7) h8) h9) h10) h11) h12) h13) h14) h15) h16)
+    (past (past (past (past (past (past (past (past (past (past (past (past (past (past (past (past (past (zero-lt-suc n)
+    h1) h2) h3) h4) h5) h6) h7) h8) h9) h10) h11) h12) h13) h14) h15) h16) h17)
 
 -- the numbers of the kinds are 1 to the last
 pub known-is : (n : ℕ) → (leb 1 n && leb n kindCount) ≡ not (is (kindOf n) Unknown)
@@ -72,6 +72,7 @@ state-asked ClearPresence m = refl
 state-asked Reinsert m = refl
 state-asked Leave m = refl
 state-asked Join m = refl
+state-asked Portion m = refl
 state-asked Unknown m = refl
 
 -- a guest that is read, and one that is not

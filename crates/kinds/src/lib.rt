@@ -7,9 +7,10 @@ ghost use Rattle.model.specs.Kinds.{kindOf, is, Unknown};
 ghost use Rattle.kinds.specs.Table.{rowCode, guestCode};
 
 // How many kinds there are: 1 to COUNT.
-pub const COUNT: usize = 16;
+pub const COUNT: usize = 17;
 
-// The kind that reads a guest, those that raise or lower the reachable count, and those that a question beside the table is about.
+// The kind that reads a guest, those that raise or lower the reachable count, those that a question beside the table is about, and the one
+// that is a call of its own too.
 pub const ALLOCATE: u32 = 1;
 
 pub const PUBLISH: u32 = 2;
@@ -36,6 +37,8 @@ pub const LEAVE: u32 = 15;
 
 pub const JOIN: u32 = 16;
 
+pub const PORTION: u32 = 17;
+
 // What a field of a step is to a kind.
 pub const UNREAD: u8 = 0;
 
@@ -46,6 +49,8 @@ pub const HAZARD: u8 = 2;
 pub const NODE: u8 = 3;
 
 pub const NUMBER: u8 = 4;
+
+pub const LIMIT: u8 = 5;
 
 // A kind that needs no state: none of the five.
 pub const ANY: u32 = 5;
@@ -71,6 +76,7 @@ const ROWS: [Row; COUNT] = [
     Row(PROCESS, UNREAD, NODE, UNREAD, states::REMOVED, true), // reinsert
     Row(PROCESS, UNREAD, PROCESS, UNREAD, ANY, false), // leave
     Row(PROCESS, UNREAD, UNREAD, UNREAD, ANY, false), // join
+    Row(PROCESS, UNREAD, NODE, LIMIT, ANY, false), // portion
 ];
 
 // Question 4: is there such a kind?
@@ -102,11 +108,12 @@ pub fn row_of(kind: u32) -> Row
         14 => ROWS[13],
         15 => ROWS[14],
         16 => ROWS[15],
+        17 => ROWS[16],
         _ => Row(UNREAD, UNREAD, UNREAD, UNREAD, ANY, false),
     }
 }
 
-// The guest as a kind reads it: 0 where it does not.
+// The guest as a kind reads it: 0 where it reads none.
 pub fn guest_read(kind: u32, guest: u32) -> u32
     ensures { λ r. ⌜ r ≡ guestCode (kindOf kind) guest ⌝ }
 {

@@ -146,6 +146,9 @@ pub mod most {
 
     pub const EPOCHS: u32 = 3;
 
+    // The most nodes that a portion of a scan may be told to examine.
+    pub const EXAMINED: u32 = 256;
+
     // The largest word, at which the clock stops.
     pub const CLOCK: u32 = 4294967295;
 

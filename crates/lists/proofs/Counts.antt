@@ -5,7 +5,7 @@ use mathlib.Core.List.{List, [], _∷_, _++_, map}
 use mathlib.Core.Path.{_≡_, refl, sym, _∙_, ap, subst}
 use native.Mathlib.Omega.{arith}
 use native.Mathlib.Nat.{suc-add, add-suc, add-zero}
-use lib.ListN.{length, getD, set, replicate}
+use lib.ListN.{length, getD, set, take, drop, replicate}
 use Rattle.lists.specs.Tests.{count, countFrom}
 use Rattle.lists.proofs.Turns.{one-most}
 
@@ -42,6 +42,12 @@ count-changed f h g (x ∷ xs) same = by (h x) (same x) (count-changed f h g xs 
         → cond (f (g x)) 1 0 + count f (map g xs) ≤ cond b 1 0 + count h xs + (cond (f x) 1 0 + count f xs)
     by true e k = let one = one-most (f (g x)) in omega arith
     by false e k = rw (e refl) (omega arith)
+
+-- those of the first n elements, and of the others
+pub count-split : {A : Type 0} (f : A → Bool) (n : ℕ) (l : List A) → count f (take n l) + count f (drop n l) ≡ count f l
+count-split f zero l = omega arith
+count-split f (suc n) [] = refl
+count-split f (suc n) (x ∷ xs) = omega (arith, count-split f n xs)
 
 pub count-replicate : {A : Type 0} (f : A → Bool) (n : ℕ) (a : A) → f a ≡ false → count f (replicate n a) ≡ 0
 count-replicate f zero a h = refl
@@ -103,3 +109,9 @@ count-places f g i (x ∷ xs) (y ∷ ys) a b e h =
     let rest = count-places f g (suc i) xs ys a b (omega arith)
     (λ c. subst (λ (k : ℕ). f k (getD xs c a) ≡ g k (getD ys c b)) (add-suc i c ∙ sym (suc-add i c)) (h (suc c))) in
     λ t. cond {A = ℕ} (here t) 1 0 + rest t
+
+-- a test that passes less, place by place
+pub count-fewer : {A : Type 0} (f g : ℕ → A → Bool) (i : ℕ) (l : List A) → ((c : ℕ) (x : A) → f c x ≡ true → g c x ≡ true)
+    → countFrom f i l ≤ countFrom g i l
+count-fewer f g i [] h = omega arith
+count-fewer f g i (x ∷ xs) h = one-le (f i x) (g i x) _ _ (h i x) (count-fewer f g (suc i) xs h)

@@ -16,3 +16,5 @@ pub mod Agree
 pub mod Mapped
 pub mod UptoParts
 pub mod First
+pub mod Past
+pub mod Between

@@ -101,3 +101,13 @@ pub sweep-within : {A : Type 0} (z : A) (f : ℕ → A → Bool) (m i : ℕ) (l 
 sweep-within z f m i [] h = refl
 sweep-within z f m i (x ∷ xs) h =
     rw (le-leb 0 i (omega arith), lt-ltb i m (omega arith)) (ap (λ r. cond (f i x) z x ∷ r) (sweep-within z f m (suc i) xs (omega arith)))
+
+-- a sweep by a test that nothing passes
+pub sweep-of-none : {A : Type 0} (z : A) (f : ℕ → A → Bool) (i : ℕ) (l : List A) → countFrom f i l ≡ 0 → sweepFrom z f i l ≡ l
+sweep-of-none z f i [] h = refl
+sweep-of-none z f i (x ∷ xs) h = by (f i x) h (sweep-of-none z f (suc i) xs)
+  where
+    by : (b : Bool) → cond b 1 0 + countFrom f (suc i) xs ≡ 0 → (countFrom f (suc i) xs ≡ 0 → sweepFrom z f (suc i) xs ≡ xs)
+        → cond b z x ∷ sweepFrom z f (suc i) xs ≡ x ∷ xs
+    by true h r = absurd (omega arith)
+    by false h r = ap (λ l. x ∷ l) (r (omega arith))

@@ -1,5 +1,5 @@
 -- Tests and facts over the elements of a list. Assumes nothing.
-use Prim.Native.Nat.{ℕ, suc, _+_}
+use Prim.Native.Nat.{ℕ, zero, suc, _+_}
 use mathlib.Core.Bool.{Bool, true, false, not, _&&_, cond}
 use mathlib.Core.List.{List, [], _∷_}
 use lib.Dec.{eqb}
@@ -32,6 +32,12 @@ countFrom f i (x ∷ xs) = cond (f i x) 1 0 + countFrom f (suc i) xs
 abbrev pub firstFrom : {A : Type 0} → (ℕ → A → Bool) → ℕ → List A → ℕ
 firstFrom f i [] = i
 firstFrom f i (x ∷ xs) = cond (f i x) i (firstFrom f (suc i) xs)
+
+-- the place after the l-th that passes, the first being i; the place after the last where fewer do
+abbrev pub pastFrom : {A : Type 0} → (A → Bool) → ℕ → ℕ → List A → ℕ
+pastFrom f zero i xs = i
+pastFrom f (suc l) i [] = i
+pastFrom f (suc l) i (x ∷ xs) = cond (f x) (pastFrom f l (suc i) xs) (pastFrom f (suc l) (suc i) xs)
 
 -- a fact of every element
 abbrev pub All : {A : Type 0} → (A → Type 0) → List A → Type 0

@@ -19,7 +19,7 @@ use Rattle.model.specs.Params.{Params, delay}
 use Rattle.model.specs.State.{Node, Domain, Step, Fast, freeNode, nodeOf, processOf, withPath}
 use Rattle.model.specs.Kinds.{Kind, kindOf, numberOf, Allocate, Publish, Protect, Check, Use, Clear}
 use Rattle.model.specs.Kinds.{Remove, Retire, Drain, Flush, Tick, Manage, ClearPresence, Reinsert, Leave, Join}
-use Rattle.model.specs.Kinds.{Unknown}
+use Rattle.model.specs.Kinds.{Portion, Unknown}
 use Rattle.model.specs.Hazards.{here}
 use Rattle.model.specs.Retire.{retiredBy, aged, visibleTo, due, dueIn, freeing, scan, retiring, marked}
 use Rattle.model.specs.Retire.{overfull, fallBack, reclaim}
@@ -234,6 +234,7 @@ module _ (a : Params) (q : Reference) (h : History) where
   past-as Leave d s i f w r =
       record { fits = handed-fits a d q s h f (w (s .process)); bounded = λ _ e. absurd (omega arith) }
   past-as Join d s i f w r = past-quiet Join d s f refl (λ e. absurd (omega arith)) (quiet-same d _ refl refl refl)
+  past-as Portion d s i f w r = past-quiet Portion d s f refl (λ e. absurd (omega arith)) (quiet-freeing d _)
   past-as Unknown d s i f w r = absurd (true≢false (r .known))
 
   pub past-step : (d : Domain) (s : Step) → Inv d → Fits a d h → Shows d → Past a q s h (step d s)

@@ -1,4 +1,4 @@
--- Every case of the list starts well: from a fresh domain, or from `stopped`, `stray`, `parked` or `overdue`. Assumes nothing.
+-- Every case of the list starts well: from a fresh domain, or from `stopped`, `stray`, `parked`, `overdue` or `crowded`. Assumes nothing.
 use Prim.Native.Nat.{ℕ, _≤_}
 use mathlib.Core.List.{List, [], _∷_}
 use mathlib.Core.Path.{_≡_, refl, sym}
@@ -8,8 +8,8 @@ use Rattle.lists.specs.Tests.{All}
 use Rattle.model.specs.Params.{Params, InRange, lastClock}
 use Rattle.model.specs.State.{Pending, Hazard, Node, Fallback}
 use Rattle.model.specs.WellFormed.{WellFormed, NodeFits, HazardFits, PendingFits}
-use Rattle.model.specs.Cases.{process, domain}
-use Rattle.model.specs.Edge.{StartsWell, parked, cases}
+use Rattle.model.specs.Cases.{process, domain, stray, crowded}
+use Rattle.model.specs.Edge.{StartsWell, parked, overdue, cases}
 use Rattle.model.proofs.Each.{_then_}
 use Rattle.model.proofs.WellFormed.{well-formed-fresh}
 
@@ -35,6 +35,12 @@ lone-well a t v e h ns r one word many fe fh fn =
       nodes = fn;
     }
 
+stray-well : WellFormed stray
+stray-well = lone-well _ _ _ _ _ _ (omega arith) (refl, refl) (omega arith) refl (omega arith) (omega arith) (omega arith, (omega arith, (omega arith, tt)))
+
+overdue-well : WellFormed overdue
+overdue-well = lone-well _ _ _ _ _ _ (omega arith) (refl, refl) (omega arith) refl (omega arith) (omega arith) (omega arith, (omega arith, (omega arith, tt)))
+
 -- two processes, the second absent with a store pending
 parked-well : WellFormed parked
 parked-well =
@@ -58,6 +64,23 @@ parked-well =
       nodes = (omega arith, (omega arith, tt));
     }
 
+-- two processes with a hazard each, and seven nodes
+crowded-well : WellFormed crowded
+crowded-well =
+    record {
+      params = omega arith;
+      clock = omega arith;
+      path = omega arith;
+      epoch = omega arith;
+      processCount = refl;
+      nodeCount = refl;
+      processes = (
+        record { words = omega arith; stores = record { room = omega arith; width = refl; buffer = tt; hazards = (omega arith, tt) } },
+        (record { words = omega arith; stores = record { room = omega arith; width = refl; buffer = tt; hazards = (omega arith, tt) } }, tt),
+      );
+      nodes = (omega arith, (omega arith, (omega arith, (omega arith, (omega arith, (omega arith, (omega arith, tt)))))));
+    }
+
 -- a line a case, in the list's order
 pub starts-well : All StartsWell cases
 starts-well =
@@ -79,7 +102,7 @@ starts-well =
     then well-formed-fresh _ (omega arith)
     then well-formed-fresh _ (omega arith)
     then well-formed-fresh _ (omega arith)
-    then lone-well _ _ _ _ _ _ (omega arith) (refl, refl) (omega arith) refl (omega arith) (omega arith) (omega arith, (omega arith, (omega arith, tt)))
+    then stray-well
     then well-formed-fresh _ (omega arith)
     then well-formed-fresh _ (omega arith)
     then well-formed-fresh _ (omega arith)
@@ -102,6 +125,27 @@ starts-well =
     then well-formed-fresh _ (omega arith)
     then well-formed-fresh _ (omega arith)
     then well-formed-fresh _ (omega arith)
-    then lone-well _ _ _ _ _ _ (omega arith) (refl, refl) (omega arith) refl (omega arith) (omega arith) (omega arith, (omega arith, (omega arith, tt)))
+    then overdue-well
     then omega arith
+    then crowded-well
+    then crowded-well
+    then crowded-well
+    then crowded-well
+    then crowded-well
+    then crowded-well
+    then crowded-well
+    then crowded-well
+    then crowded-well
+    then crowded-well
+    then crowded-well
+    then crowded-well
+    then crowded-well
+    then parked-well
+    then parked-well
+    then stray-well
+    then well-formed-fresh _ (omega arith)
+    then overdue-well
+    then well-formed-fresh _ (omega arith)
+    then crowded-well
+    then crowded-well
     then tt

@@ -16,14 +16,16 @@ use Rattle.lists.proofs.Sweeps.{sweep-is}
 use Rattle.model.specs.Params.{Params}
 use Rattle.model.specs.State.{Node, Domain, Step, Free, Retired, freeNode, nodeOf, setNode}
 use Rattle.model.specs.Kinds.{Kind, kindOf, is, Allocate, Publish, Protect, Check, Use, Clear, Remove}
-use Rattle.model.specs.Kinds.{Retire, Drain, Flush, Tick, Manage, ClearPresence, Reinsert, Leave, Join, Unknown}
+use Rattle.model.specs.Kinds.{Retire, Drain, Flush, Tick, Manage, ClearPresence, Reinsert, Leave, Join, Portion}
+use Rattle.model.specs.Kinds.{Unknown}
 use Rattle.model.specs.Retire.{Effect, retiredBy, marked}
 use Rattle.model.specs.Leave.{handed, handOver}
 use Rattle.model.specs.Machine.{act, stepAs, step}
 use Rattle.model.specs.Claims.{turnedFree, reportsFreed, FreedAreCounted}
 use Rattle.model.proofs.Walk.{Asked, by-step}
 use Rattle.model.proofs.KindNumbers.{same-kind}
-use Rattle.model.proofs.Freeing.{Reclaims, reclaims-none, retired-by, reclaim-reclaims, manage-reclaims}
+use Rattle.model.proofs.Freeing.{Reclaims, reclaims-none, retired-by, partial-reclaims, reclaim-reclaims}
+use Rattle.model.proofs.Freeing.{manage-reclaims}
 use Rattle.model.proofs.Handed.{handed-at}
 
 -- what a node that became n may have been: nothing but a Free node becomes Free, and no Free node Retired
@@ -75,7 +77,7 @@ handed-over d p q =
 -- ---- A step
 
 freed : (k : Kind) (d : Domain) (s : Step) → Asked k d s
-    → turnedFree d (act k d s .after) ≡ cond (is k Retire || is k Manage) (act k d s .value) 0
+    → turnedFree d (act k d s .after) ≡ cond (is k Retire || (is k Manage || is k Portion)) (act k d s .value) 0
 freed Allocate d s a = stored d (s .node) _ (omega arith)
 freed Publish d s a = stored d (s .node) _ (omega arith)
 freed Protect d s a = none-turned d
@@ -94,10 +96,11 @@ freed ClearPresence d s a = none-turned d
 freed Reinsert d s a = stored d (s .node) _ (omega arith)
 freed Leave d s a = handed-over d (s .process) (s .node)
 freed Join d s a = none-turned d
+freed Portion d s a = turned-sweep d _ (partial-reclaims d (s .process) (s .node) _) refl (λ c. omega arith)
 freed Unknown d s a = none-turned d
 
--- of an outcome, whichever way retires and manages are told
-freed-as : (k : Kind) (reports : Bool) → reports ≡ (is k Retire || is k Manage) → (d : Domain) (s : Step)
+-- of an outcome, whichever way the kinds that free are told
+freed-as : (k : Kind) (reports : Bool) → reports ≡ (is k Retire || (is k Manage || is k Portion)) → (d : Domain) (s : Step)
     → turnedFree d (stepAs k d s .after) ≡ cond (eqb (stepAs k d s .refusal) 0 && reports) (stepAs k d s .value) 0
 freed-as k reports e d s =
     by-step k d s (λ o. turnedFree d (o .after) ≡ cond (eqb (o .refusal) 0 && reports) (o .value) 0)
@@ -107,4 +110,4 @@ pub freed-are-counted : FreedAreCounted
 unfolding step
 freed-are-counted d s =
     freed-as (kindOf (s .kind)) (reportsFreed (s .kind))
-    (λ i. same-kind (s .kind) Retire refl i || same-kind (s .kind) Manage refl i) d s
+    (λ i. same-kind (s .kind) Retire refl i || (same-kind (s .kind) Manage refl i || same-kind (s .kind) Portion refl i)) d s

@@ -1,4 +1,4 @@
--- What a retire and a manage free: a sweep of Retired nodes, and as many as the value says; and what a leave leaves of a node.
+-- What a retire, a manage and a portion free: a sweep of Retired nodes, and as many as the value says; and what a leave leaves of a node.
 -- Assumes nothing.
 use Prim.Native.Nat.{ℕ}
 use mathlib.Core.Bool.{Bool, true, false, false≢true}
@@ -13,7 +13,7 @@ use Rattle.lists.proofs.Counts.{count-none}
 use Rattle.lists.proofs.Sweeps.{sweep-none}
 use Rattle.model.specs.Params.{Params}
 use Rattle.model.specs.State.{Node, Domain, Step, Fast, Retired, freeNode, withPath}
-use Rattle.model.specs.Retire.{Effect, effect, retiredBy, within, dueIn, scan, fallBack, reclaim}
+use Rattle.model.specs.Retire.{Effect, effect, retiredBy, within, dueIn, partialScan, scan, fallBack, reclaim}
 use Rattle.model.specs.Epochs.{expired, quiescent, counted, manage}
 use Rattle.model.proofs.Walk.{by-reclaim, by-quiescent, by-manage}
 
@@ -47,15 +47,18 @@ due-retired d p a b c n h = retired-by p n (both (retiredBy p n) _ (both (within
 pub expired-retired : (d : Domain) (p c : ℕ) (n : Node) → expired d p c n ≡ true → n .state ≡ Retired
 expired-retired d p c n h = retired-by p n (both (retiredBy p n) _ h .0) .0
 
-scan-reclaims : (d : Domain) (p : ℕ) → Reclaims (d .params) (d .nodes) (scan d p)
-scan-reclaims d p =
+pub partial-reclaims : (d : Domain) (p a b : ℕ) → Reclaims (d .params) (d .nodes) (partialScan d p a b)
+partial-reclaims d p a b =
     record {
-      test = dueIn d p 0 (d .params .nodes);
-      retired = due-retired d p 0 (d .params .nodes);
+      test = dueIn d p a b;
+      retired = due-retired d p a b;
       value = refl;
       params = refl;
       nodes = refl;
     }
+
+scan-reclaims : (d : Domain) (p : ℕ) → Reclaims (d .params) (d .nodes) (scan d p)
+scan-reclaims d p = partial-reclaims d p 0 (d .params .nodes)
 
 quiescent-reclaims : (d : Domain) (p : ℕ) → Reclaims (d .params) (d .nodes) (quiescent d p)
 quiescent-reclaims d p =

@@ -1,7 +1,7 @@
 -- The reference's image of a domain: it agrees with the domain, and the reference's step at the image comes to the image of the domain
 -- after it. Assumes nothing.
 use Prim.Native.Nat.{ℕ, _-_, _<_}
-use mathlib.Core.Bool.{Bool, true, false, cond}
+use mathlib.Core.Bool.{Bool, true, false, cond, _||_}
 use mathlib.Core.List.{List, [], _∷_, map, map-map}
 use mathlib.Core.Path.{_≡_, refl, sym, ap, _∙_}
 use borrow.Author.Tests.{lt-ltb, eq-eqb, ne-eqb}
@@ -13,7 +13,8 @@ use Rattle.model.specs.Params.{Params}
 use Rattle.model.specs.State.{Pending, Hazard, Process, Node, Domain, Step, emptyHazard, noProcess}
 use Rattle.model.specs.State.{freeNode, nodeOf, processOf, hazardOf, setProcess, withoutPresence, clearPresence}
 use Rattle.model.specs.Kinds.{Kind, is, Allocate, Publish, Protect, Check, Use, Clear, Remove, Retire}
-use Rattle.model.specs.Kinds.{Drain, Flush, Tick, Manage, ClearPresence, Reinsert, Leave, Join, Unknown}
+use Rattle.model.specs.Kinds.{Drain, Flush, Tick, Manage, ClearPresence, Reinsert, Leave, Join, Portion}
+use Rattle.model.specs.Kinds.{Unknown}
 use Rattle.model.specs.Hazards.{here, target, committing, drained, flushed}
 use Rattle.model.specs.Retire.{retiredBy, retiring, marked}
 use Rattle.model.specs.Leave.{ownedBy, handed, handOver}
@@ -99,6 +100,7 @@ yes-as ClearPresence d s a = refl
 yes-as Reinsert d s a = yes-owned d s 3 (a .process refl) (a .node refl) (a .state 3 refl) (a .owner refl)
 yes-as Leave d s a = simp (lt-ltb _ _ (a .process refl))
 yes-as Join d s a = simp (lt-ltb _ _ (a .process refl))
+yes-as Portion d s a = simp (lt-ltb _ _ (a .process refl), lt-ltb _ _ (a .node refl), a .limit refl)
 yes-as Unknown d s a = refl
 
 -- ---- changes that the image does not show
@@ -133,10 +135,10 @@ same-handed d p q =
     let same = map-map cell (handed p q t e) (d .nodes) ∙ (λ i. map (λ n. cell-handed p q t e n i) (d .nodes)) ∙ sym (map-map (passed p q) cell (d .nodes)) in
     simp same
 
--- ---- the reference's step at the image. A retire frees, and a manage does all that it does, after this
+-- ---- the reference's step at the image. A retire frees, and a manage and a portion do all that they do, after this
 
 abbrev pub before : Kind → Domain → Step → Domain
-before k d s = cond (is k Retire) (marked d s) (cond (is k Manage) d (act k d s .after))
+before k d s = cond (is k Retire) (marked d s) (cond (is k Manage || is k Portion) d (act k d s .after))
 
 pub follow-as : (k : Kind) (d : Domain) (s : Step) → follow (image d) (commandOf (atKind k s)) ≡ image (before k d s)
 unfolding follow
@@ -156,6 +158,7 @@ follow-as ClearPresence d s = sym (same-presence d)
 follow-as Reinsert d s = simp (cell-at, map-set)
 follow-as Leave d s = same-handed d (s .process) (s .node) ∙ sym (same-row (handOver d (s .process) (s .node)) (s .process) _ refl)
 follow-as Join d s = sym (same-row d (s .process) _ refl)
+follow-as Portion d s = refl
 follow-as Unknown d s = refl
 
 -- the value of a use

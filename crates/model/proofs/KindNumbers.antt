@@ -12,7 +12,7 @@ use Rattle.lists.proofs.Bools.{both}
 use Rattle.model.specs.State.{Step}
 use Rattle.model.specs.Kinds.{Kind, kinds, kindOf, numberOf, is, Allocate, Publish, Protect, Check, Use, Clear}
 use Rattle.model.specs.Kinds.{Remove, Retire, Drain, Flush, Tick, Manage, ClearPresence, Reinsert, Leave, Join}
-use Rattle.model.specs.Kinds.{Unknown}
+use Rattle.model.specs.Kinds.{Portion, Unknown}
 
 -- from a kind to its number and back
 pub kind-of-number : (k : Kind) → kindOf (numberOf k) ≡ k
@@ -32,6 +32,7 @@ kind-of-number ClearPresence = refl
 kind-of-number Reinsert = refl
 kind-of-number Leave = refl
 kind-of-number Join = refl
+kind-of-number Portion = refl
 kind-of-number Unknown = refl
 
 -- from a number to its kind and back, where the kind is known

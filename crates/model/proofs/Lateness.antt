@@ -13,8 +13,8 @@ use Rattle.model.specs.State.{Pending, Hazard, Process, Node, Domain, St
 use Rattle.model.specs.WellFormed.{NodeFits, HazardFits, PendingFits, ProcessFits, WellFormed}
 use Rattle.model.specs.Kinds as K
 use Rattle.model.specs.Kinds.{Kind, is, kindOf}
-use Rattle.model.specs.Retire.{Effect, effect, retiredBy, visibleTo, within, freeing, marked, scan, overfull}
-use Rattle.model.specs.Retire.{fallBack, reclaim}
+use Rattle.model.specs.Retire.{Effect, effect, retiredBy, visibleTo, within, freeing, partialScan, marked, scan}
+use Rattle.model.specs.Retire.{overfull, fallBack, reclaim}
 use Rattle.model.specs.Epochs.{caughtUp, adopt, quiescent, allCheckedIn, managing, calledBy, counted, manage}
 use Rattle.model.specs.Hazards.{here, young}
 use Rattle.model.specs.Questions.{ask, firstNo, questions, refusalOf}
@@ -30,11 +30,14 @@ punctualEffect e = effect (e .value) (punctual (e .after))
 same-delay : (a : Params) → delay (merged a) ≡ delay a
 same-delay a = omega arith
 
-scan-punctual : (d : Domain) (p : ℕ) → scan (punctual d) p ≡ punctualEffect (scan d p)
-scan-punctual d p =
+partial-punctual : (d : Domain) (p a b : ℕ) → partialScan (punctual d) p a b ≡ punctualEffect (partialScan d p a b)
+partial-punctual d p a b =
     λ t. freeing (punctual d)
-    (λ c n. within 0 (d .params .nodes) c
+    (λ c n. within a b c
     && (retiredBy p n && (ltb (same-delay (d .params) t) (d .clock - n .retiredAt) && lacks (visibleTo d p) (suc c))))
+
+scan-punctual : (d : Domain) (p : ℕ) → scan (punctual d) p ≡ punctualEffect (scan d p)
+scan-punctual d p = partial-punctual d p 0 (d .params .nodes)
 
 same-refusal : (k : Kind) (d : Domain) (s : Step) → refusalOf k (punctual d) s ≡ refusalOf k d s
 same-refusal k d s =
@@ -85,6 +88,7 @@ act-punctual K.ClearPresence d s = refl
 act-punctual K.Reinsert d s = refl
 act-punctual K.Leave d s = refl
 act-punctual K.Join d s = refl
+act-punctual K.Portion d s = partial-punctual d (s .process) (s .node) _
 act-punctual K.Unknown d s = refl
 
 step-punctual : (d : Domain) (s : Step) → step (punctual d) s ≡ punctually (step d s)

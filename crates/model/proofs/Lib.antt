@@ -23,4 +23,5 @@ pub mod Simulation
 pub mod Bound
 pub mod Demand3
 pub mod Why
+pub mod Portions
 pub mod Theorems

@@ -16,14 +16,15 @@ use Rattle.lists.proofs.Sweeps.{sweep-length, count-others}
 use Rattle.model.specs.Params.{Params}
 use Rattle.model.specs.State.{Node, Domain, Step, Reachable, freeNode, nodeOf, processOf, setNode}
 use Rattle.model.specs.Kinds.{Kind, kindOf, is, Allocate, Publish, Protect, Check, Use, Clear, Remove}
-use Rattle.model.specs.Kinds.{Retire, Drain, Flush, Tick, Manage, ClearPresence, Reinsert, Leave, Join, Unknown}
+use Rattle.model.specs.Kinds.{Retire, Drain, Flush, Tick, Manage, ClearPresence, Reinsert, Leave, Join, Portion}
+use Rattle.model.specs.Kinds.{Unknown}
 use Rattle.model.specs.Retire.{Effect, retiredBy, marked}
 use Rattle.model.specs.Leave.{handed}
 use Rattle.model.specs.Machine.{Outcome, act, stepAs, step, run, fresh}
 use Rattle.model.specs.Claims.{reachableCount, raises, lowers, acceptedOf, PanelStep, Panel}
 use Rattle.model.proofs.Walk.{Asked, by-step}
 use Rattle.model.proofs.KindNumbers.{same-kind}
-use Rattle.model.proofs.Freeing.{Reclaims, retired-by, reclaim-reclaims, manage-reclaims}
+use Rattle.model.proofs.Freeing.{Reclaims, retired-by, partial-reclaims, reclaim-reclaims, manage-reclaims}
 
 abbrev reachable : Node → Bool
 reachable n = eqb (n .state) Reachable
@@ -96,6 +97,7 @@ balanced Leave d s h a =
           (count-map reachable _ (d .nodes) ∙ (λ t. count (λ n. reachable-handed (s .process) (s .node) (d .clock) (processOf d (s .node) .epoch) n t) (d .nodes)));
     }
 balanced Join d s h a = record { full = h; even = refl }
+balanced Portion d s h a = swept Portion d _ (record { full = h; even = refl }) (partial-reclaims d (s .process) (s .node) _)
 balanced Unknown d s h a = record { full = h; even = refl }
 
 -- the same of an outcome, whichever way it is told what lowers and what raises

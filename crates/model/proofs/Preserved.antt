@@ -11,7 +11,8 @@ use Rattle.model.specs.Params.{Params}
 use Rattle.model.specs.State.{Process, Domain, Step, Fast, Fallback, emptyHazard, noProcess, freeNode}
 use Rattle.model.specs.State.{processOf, hazardOf, withPath}
 use Rattle.model.specs.Kinds.{Kind, kindOf, Allocate, Publish, Protect, Check, Use, Clear, Remove, Retire}
-use Rattle.model.specs.Kinds.{Drain, Flush, Tick, Manage, ClearPresence, Reinsert, Leave, Join, Unknown}
+use Rattle.model.specs.Kinds.{Drain, Flush, Tick, Manage, ClearPresence, Reinsert, Leave, Join, Portion}
+use Rattle.model.specs.Kinds.{Unknown}
 use Rattle.model.specs.Hazards.{here, pointer, validating, unassigned}
 use Rattle.model.specs.Retire.{Effect, marked, fallBack, reclaim}
 use Rattle.model.specs.Epochs.{calledBy, counted, manage}
@@ -22,7 +23,7 @@ use Rattle.model.proofs.Invariant.{Near, ProcessOk, Inv}
 use Rattle.model.proofs.Updates.{set-node, with-path, clear-presence}
 use Rattle.model.proofs.Buffer.{hazards-here, keep-process, assign-keeps, validate-ok, drain-ok}
 use Rattle.model.proofs.Buffer.{flush-ok, tick-ok}
-use Rattle.model.proofs.Unclaimed.{scan-ok, quiescent-ok, marked-ok}
+use Rattle.model.proofs.Unclaimed.{partial-ok, scan-ok, quiescent-ok, marked-ok}
 use Rattle.model.proofs.Leaving.{leave-ok, join-ok}
 
 abbrev Keeps : Effect → Type 0
@@ -82,6 +83,7 @@ keep-as k d s i = by-step k d s (λ o. Inv (o .after)) (λ _ _. i) (kept k)
     kept Reinsert a = set-node d i (s .node) _ λ p h k o. record { published = omega arith; limbo = λ e. absurd (omega arith) }
     kept Leave a = leave-ok d i (s .process) (s .node) (a .process refl) (a .unburdened' refl) (heir d (s .process) (s .node) (a .takesOver' refl))
     kept Join a = join-ok d i (s .process) (a .process refl) (a .present refl)
+    kept Portion a = partial-ok d i (s .process) (s .node) _
     kept Unknown a = i
 
 pub invariant-step : (d : Domain) (s : Step) → Inv d → Inv (step d s .after)

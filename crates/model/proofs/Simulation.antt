@@ -16,8 +16,8 @@ use Rattle.lists.proofs.Sweeps.{places-length}
 use Rattle.model.specs.State.{Node, Domain, Step, Fast, Fallback, Retired, freeNode, nodeOf, withPath}
 use Rattle.model.specs.Kinds.{Kind, kindOf, numberOf, Allocate, Publish, Protect, Check, Use, Clear}
 use Rattle.model.specs.Kinds.{Remove, Retire, Drain, Flush, Tick, Manage, ClearPresence, Reinsert, Leave, Join}
-use Rattle.model.specs.Kinds.{Unknown}
-use Rattle.model.specs.Retire.{Effect, effect, dueIn, freeing, scan, marked, fallBack, reclaim}
+use Rattle.model.specs.Kinds.{Portion, Unknown}
+use Rattle.model.specs.Retire.{Effect, effect, dueIn, freeing, partialScan, scan, marked, fallBack, reclaim}
 use Rattle.model.specs.Epochs.{expired, quiescent, counted, manage}
 use Rattle.model.specs.Machine.{Outcome, refused, accepted, act, step}
 use Rattle.model.specs.Reference.{Cell, Reference, emptyCell, pointerAt, asks, valueOf, freeEach}
@@ -126,9 +126,11 @@ led-freeing d f st un =
           assigned = sym (ap (λ x. x .assigned) (pointer-there d p t)) ∙ rw zero-add at a;
         }) (rw zero-add at h)
 
+led-partial : (d : Domain) → Inv d → (p a b : ℕ) → Led (image d) (partialScan d p a b)
+led-partial d i p a b = led-freeing d (dueIn d p a b) (due-retired d p a b) (due-unclaimed d i p a b)
+
 led-scan : (d : Domain) → Inv d → (p : ℕ) → Led (image d) (scan d p)
-led-scan d i p =
-    led-freeing d (dueIn d p 0 (d .params .nodes)) (due-retired d p 0 (d .params .nodes)) (due-unclaimed d i p 0 (d .params .nodes))
+led-scan d i p = led-partial d i p 0 (d .params .nodes)
 
 led-reclaim : (d : Domain) → Inv d → (p : ℕ) → Led (image d) (reclaim d p)
 led-reclaim d i p =
@@ -215,6 +217,7 @@ sim-as ClearPresence d s i a = sim-still ClearPresence d s a refl (λ e. absurd 
 sim-as Reinsert d s i a = sim-still Reinsert d s a refl (λ e. absurd (omega arith)) refl
 sim-as Leave d s i a = sim-still Leave d s a refl (λ e. absurd (omega arith)) refl
 sim-as Join d s i a = sim-still Join d s a refl (λ e. absurd (omega arith)) refl
+sim-as Portion d s i a = sim-led Portion d s a refl (λ e. absurd (omega arith)) (led-partial d i (s .process) (s .node) _)
 sim-as Unknown d s i a = absurd (true≢false (a .known))
 
 pub sim-step : (d : Domain) (s : Step) → Inv d → Sim d s (step d s)

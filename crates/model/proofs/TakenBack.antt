@@ -36,6 +36,7 @@ module _ (d : Domain) (s t : Step) (w : WellFormed d) (p : t .process ≡ s .pro
         takesOver' = none;
         hazard = none;
         node = λ _. rw c (a .node refl);
+        limit = none;
         state = λ n e. state-met (rowOf Reinsert .needs) n _ (eq-eqb _ _ (ap (λ x. x .state) removed-here)) e;
         owner = λ _. ap (λ x. x .owner) removed-here ∙ sym p;
         assigned = none;

@@ -2,7 +2,8 @@
 use Rattle.model.specs.Claims.{RefusedUnchanged, UnreadFields, FreshWellFormed, StepWellFormed, PanelStep}
 use Rattle.model.specs.Claims.{Panel}
 use Rattle.model.specs.Claims.{RemoveTakenBack, FreedAreCounted, Demand3, LatenessIsDelay, LatenessInBound}
-use Rattle.model.specs.Claims.{NoLateness, WhyIsExact}
+use Rattle.model.specs.Claims.{NoLateness, WhyIsExact, PortionIsStep, PortionIsExact, PortionsAreScan}
+use Rattle.model.specs.Claims.{PortionsEnd}
 use Rattle.model.proofs.Unread as Unread
 use Rattle.model.proofs.WellFormed as WellFormed
 use Rattle.model.proofs.Panel as Counted
@@ -11,6 +12,7 @@ use Rattle.model.proofs.Freed as Freed
 use Rattle.model.proofs.Lateness as Lateness
 use Rattle.model.proofs.Demand3 as Follow
 use Rattle.model.proofs.Why as Waiting
+use Rattle.model.proofs.Portions as Portions
 
 pub refused-unchanged : RefusedUnchanged
 refused-unchanged = Unread.refused-unchanged
@@ -50,3 +52,15 @@ no-lateness = Lateness.no-lateness
 
 pub why-is-exact : WhyIsExact
 why-is-exact = Waiting.why-is-exact
+
+pub portion-is-step : PortionIsStep
+portion-is-step = Portions.portion-is-step
+
+pub portion-is-exact : PortionIsExact
+portion-is-exact = Portions.portion-is-exact
+
+pub portions-are-scan : PortionsAreScan
+portions-are-scan = Portions.portions-are-scan
+
+pub portions-end : PortionsEnd
+portions-end = Portions.portions-end

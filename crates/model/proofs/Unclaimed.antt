@@ -19,7 +19,7 @@ use Rattle.model.specs.State.{Pending, Hazard, Process, Node, Domain, St
 use Rattle.model.specs.State.{processOf, hazardOf, withEpoch, inEpochs, nextEpoch}
 use Rattle.model.specs.Hazards.{here, latest, unassigned}
 use Rattle.model.specs.Retire.{retiredBy, ownFrom, visibleIn, visibleFrom, visibleTo, aged, due, within, dueIn}
-use Rattle.model.specs.Retire.{freeing, scan, retiring, marked}
+use Rattle.model.specs.Retire.{freeing, partialScan, scan, retiring, marked}
 use Rattle.model.specs.Epochs.{expired, caughtUp, quiescent}
 use Rattle.model.proofs.Walk.{by-quiescent}
 use Rattle.model.proofs.Freeing.{retired-by}
@@ -100,8 +100,11 @@ module _ (d : Domain) (i : Inv d) where
       let gone = lacked-by p 0 (d .processes) q (suc c) (v .1) in
       lacks-at (visibleIn (gone .0) x) h (suc c) (gone .1) (λ e. omega arith) (visible-settled (gone .0) x h hazard still ∙ there)
 
+  pub partial-ok : (p a b : ℕ) → Inv (partialScan d p a b .after)
+  partial-ok p a b = sweep-nodes d i (dueIn d p a b) (due-unclaimed p a b)
+
   pub scan-ok : (p : ℕ) → Inv (scan d p .after)
-  scan-ok p = sweep-nodes d i (dueIn d p 0 (d .params .nodes)) (due-unclaimed p 0 (d .params .nodes))
+  scan-ok p = partial-ok p 0 (d .params .nodes)
 
   -- ---- the quiescent state
 

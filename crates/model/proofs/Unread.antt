@@ -5,7 +5,8 @@ use mathlib.Core.Path.{_≡_, refl, sym, _∙_, ap}
 use mathlib.Core.Logic.{_≢_}
 use Rattle.model.specs.State.{Domain, Step}
 use Rattle.model.specs.Kinds.{Kind, kindOf, rowOf, Allocate, Publish, Protect, Check, Use, Clear, Remove}
-use Rattle.model.specs.Kinds.{Retire, Drain, Flush, Tick, Manage, ClearPresence, Reinsert, Leave, Join, Unknown}
+use Rattle.model.specs.Kinds.{Retire, Drain, Flush, Tick, Manage, ClearPresence, Reinsert, Leave, Join, Portion}
+use Rattle.model.specs.Kinds.{Unknown}
 use Rattle.model.specs.Machine.{step, stepAs}
 use Rattle.model.specs.Claims.{RefusedUnchanged, UnreadFields, SameRead, reads}
 use Rattle.model.proofs.Walk.{by-step}
@@ -48,6 +49,7 @@ trim-as ClearPresence d s = refl
 trim-as Reinsert d s = refl
 trim-as Leave d s = refl
 trim-as Join d s = refl
+trim-as Portion d s = refl
 trim-as Unknown d s = refl
 
 -- where a field is read only equal fields will do, and elsewhere any

@@ -15,12 +15,14 @@ use Rattle.model.specs.Params.{bufferSize, lastClock}
 use Rattle.model.specs.State.{Domain, Step, Reachable, Fast, Fallback, nodeOf, processOf, withPath}
 use Rattle.model.specs.State.{withEpoch, acts, nextEpoch}
 use Rattle.model.specs.Kinds.{Kind, is, means, rowOf, meets, Needed, Any, Exactly, ProcessId, HazardId}
-use Rattle.model.specs.Kinds.{NodeId, Protect, Check, Use, Clear, Drain, Tick, Manage, Leave, Join, Unknown}
+use Rattle.model.specs.Kinds.{NodeId, Limit, Protect, Check, Use, Clear, Drain, Tick, Manage, Leave, Join}
+use Rattle.model.specs.Kinds.{Unknown}
 use Rattle.model.specs.Hazards.{here, pointer, target, young, unassigned}
 use Rattle.model.specs.Retire.{Effect, effect, scan, overfull, fallBack, reclaim}
 use Rattle.model.specs.Epochs.{caughtUp, adopt, quiescent, allCheckedIn, calledBy, counted, manage}
 use Rattle.model.specs.Questions.{Question, ask, firstNo, presentFor, questions, refusalOf}
 use Rattle.model.specs.Leave.{unburdened, takesOver}
+use Rattle.model.specs.Portion.{limitInRange}
 use Rattle.model.specs.Machine.{Outcome, refused, accepted, act, stepAs}
 
 -- what a yes to every question says
@@ -32,6 +34,7 @@ pub record Asked (k : Kind) (d : Domain) (s : Step) : Type 0 where
   pub takesOver' : is k Leave ≡ true → takesOver d (s .process) (s .node) ≡ true
   pub hazard : means (rowOf k .hazard) HazardId ≡ true → s .hazard < d .params .hazards
   pub node : means (rowOf k .node) NodeId ≡ true → s .node < d .params .nodes
+  pub limit : means (rowOf k .guest) Limit ≡ true → limitInRange (s .guest) ≡ true
   pub state : (n : ℕ) → rowOf k .needs ≡ Exactly n → nodeOf d (s .node) .state ≡ n
   pub owner : rowOf k .owns ≡ true → nodeOf d (s .node) .owner ≡ s .process
   pub assigned : is k Check ≡ true → pointer d s .assigned ≢ 0
@@ -82,16 +85,17 @@ module _ (k : Kind) (d : Domain) (s : Step) where
         takesOver' = λ r. implied _ _ (yes-at 4 e) r;
         hazard = λ r. ltb-true _ _ (implied _ _ (yes-at 5 e) r);
         node = λ r. ltb-true _ _ (implied _ _ (yes-at 6 e) r);
-        state = λ n r. state-met _ n _ (yes-at 7 e) r;
-        owner = λ r. eqb-true _ _ (implied _ _ (yes-at 8 e) r);
-        assigned = λ r. eqb-false _ _ (not-true _ (implied _ _ (yes-at 9 e) r));
-        reachable = λ r. eqb-true _ _ (implied _ _ (yes-at 10 e) r);
-        validated = λ r. eqb-true _ _ (implied _ _ (yes-at 11 e) r);
-        room = λ r. ltb-true _ _ (implied _ _ (yes-at 12 e) r);
-        some' = λ r. eqb-false _ _ (not-true _ (implied _ _ (yes-at 13 e) r));
-        clock = λ r. ltb-true _ _ (implied _ _ (yes-at 14 e) r);
-        young' = λ r. implied _ _ (yes-at 15 e) r;
-        unassigned' = λ r. implied _ _ (yes-at 16 e) r;
+        limit = λ r. implied _ _ (yes-at 7 e) r;
+        state = λ n r. state-met _ n _ (yes-at 8 e) r;
+        owner = λ r. eqb-true _ _ (implied _ _ (yes-at 9 e) r);
+        assigned = λ r. eqb-false _ _ (not-true _ (implied _ _ (yes-at 10 e) r));
+        reachable = λ r. eqb-true _ _ (implied _ _ (yes-at 11 e) r);
+        validated = λ r. eqb-true _ _ (implied _ _ (yes-at 12 e) r);
+        room = λ r. ltb-true _ _ (implied _ _ (yes-at 13 e) r);
+        some' = λ r. eqb-false _ _ (not-true _ (implied _ _ (yes-at 14 e) r));
+        clock = λ r. ltb-true _ _ (implied _ _ (yes-at 15 e) r);
+        young' = λ r. implied _ _ (yes-at 16 e) r;
+        unassigned' = λ r. implied _ _ (yes-at 17 e) r;
       }
 
   -- and back: a step of which all this holds is accepted
@@ -106,6 +110,7 @@ module _ (k : Kind) (d : Domain) (s : Step) where
         imply _ _ (a .takesOver'),
         imply _ _ (λ r. lt-ltb _ _ (a .hazard r)),
         imply _ _ (λ r. lt-ltb _ _ (a .node r)),
+        imply _ _ (a .limit),
         meet-state _ _ (a .state),
         imply _ _ (λ r. eq-eqb _ _ (a .owner r)),
         imply _ _ (λ r. differs _ _ (a .assigned r)),

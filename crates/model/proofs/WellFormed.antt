@@ -20,7 +20,8 @@ use Rattle.model.specs.State.{nextEpoch}
 use Rattle.model.specs.State.{withoutPresence, clearPresence}
 use Rattle.model.specs.WellFormed.{NodeFits, HazardFits, PendingFits, ProcessFits, WellFormed}
 use Rattle.model.specs.Kinds.{Kind, kindOf, Allocate, Publish, Protect, Check, Use, Clear, Remove, Retire}
-use Rattle.model.specs.Kinds.{Drain, Flush, Tick, Manage, ClearPresence, Reinsert, Leave, Join, Unknown}
+use Rattle.model.specs.Kinds.{Drain, Flush, Tick, Manage, ClearPresence, Reinsert, Leave, Join, Portion}
+use Rattle.model.specs.Kinds.{Unknown}
 use Rattle.model.specs.Hazards.{here, pending, assigning, validating, committing, drained, flushed}
 use Rattle.model.specs.Retire.{retiredBy, freeing, marked, retiring}
 use Rattle.model.specs.Epochs.{expired, quiescent, calledBy, counted}
@@ -295,6 +296,7 @@ keep-act Reinsert d s w a = keep-published w (s .node) (a .node refl) (omega (ar
 keep-act Leave d s w a =
     keep-left (keep-handed w (s .process) (s .node) (heir d (s .process) (s .node) (a .takesOver' refl) .below)) (s .process) (a .process refl)
 keep-act Join d s w a = keep-joined w (s .process) (a .process refl)
+keep-act Portion d s w a = keep-freeing w _
 keep-act Unknown d s w a = w
 
 pub well-formed-step : StepWellFormed

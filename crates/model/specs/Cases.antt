@@ -5,7 +5,7 @@ use mathlib.Core.List.{List, [], _∷_}
 use lib.ListN.{replicate}
 use Rattle.model.specs.Params.{Params, paramsOf}
 use Rattle.model.specs.State.{Pending, Hazard, Process, Node, Domain, Step}
-use Rattle.model.specs.Machine.{Outcome}
+use Rattle.model.specs.Machine.{Outcome, PortionAnswer}
 
 -- ---- answers
 
@@ -18,6 +18,24 @@ gives v = record { refusal = 0; value = v }
 
 abbrev pub refuses : ℕ → Answer
 refuses n = record { refusal = n; value = 0 }
+
+-- the five numbers of a portion
+pub record Numbers : Type 0 where
+  pub refusal : ℕ
+  pub freed : ℕ
+  pub examined : ℕ
+  pub next : ℕ
+  pub left : ℕ
+
+abbrev pub numbersOf : PortionAnswer → Numbers
+numbersOf x = record { refusal = x .refusal; freed = x .freed; examined = x .examined; next = x .next; left = x .left }
+
+-- freed, examined, next and left; and those where it is refused
+abbrev pub tells : ℕ → ℕ → ℕ → ℕ → Numbers
+tells f x n k = record { refusal = 0; freed = f; examined = x; next = n; left = k }
+
+abbrev pub declines : ℕ → Numbers
+declines n = record { refusal = n; freed = 0; examined = 0; next = 0; left = 0 }
 
 -- n times accepted, value 0
 abbrev pub oks : ℕ → List Answer
@@ -87,6 +105,10 @@ leave p q = stepOf 15 p 0 q 0
 abbrev pub join : ℕ → Step
 join p = stepOf 16 p 0 0 0
 
+-- process p scans from node c on, and meets at most l of its Retired nodes
+abbrev pub portion : ℕ → ℕ → ℕ → Step
+portion p c l = stepOf 17 p 0 c l
+
 -- node c comes and goes: process p allocates it for guest g, publishes, removes and retires it
 abbrev pub turnover : ℕ → ℕ → ℕ → List Step
 turnover p c g = allocate p c g ∷ publish p c ∷ remove p c ∷ retire p c ∷ []
@@ -153,3 +175,13 @@ stray =
     domain (params 1 1 3 1 1 1) 2 1 0
     (process 0 0 0 (store 0 1 2 ∷ []) (hazard 0 2 0 ∷ []) ∷ [])
     (retired 0 70 0 0 ∷ retired 0 71 0 0 ∷ free ∷ [])
+
+-- at clock 4, on the fallback path, with T = 1 and the seven nodes ns: process 1 has validated node 4 and shows it to all
+abbrev pub crowd : List Node → Domain
+crowd ns =
+    domain (params 2 1 7 1 1 1) 4 1 0 (process 0 0 1 [] (hazard 0 0 0 ∷ []) ∷ process 0 0 0 [] (hazard 5 5 1 ∷ []) ∷ []) ns
+
+-- Retired nodes: of process 0 node 0, 2 (of age T), 4 (which is shown), 5 and 6, and of process 1 node 3
+abbrev pub crowded : Domain
+crowded =
+    crowd (retired 0 70 0 0 ∷ removed 0 71 ∷ retired 0 72 3 1 ∷ retired 1 73 0 0 ∷ retired 0 74 0 0 ∷ retired 0 75 1 2 ∷ retired 0 76 2 0 ∷ [])

@@ -1,4 +1,5 @@
--- What is promised of the rules: demands 2 and 3, well-formedness, refusals, fields that are not read, what E is, and why a node waits.
+-- What is promised of the rules: demands 2 and 3, well-formedness, refusals, fields that are not read, what E is, why a node waits, and a scan
+-- in portions.
 -- Statements only; the theorems of these types stand in proofs/Theorems.antt. Assumes nothing.
 use Prim.Native.Nat.{ℕ, suc, _+_, _-_, _*_, _<_, _≤_, max}
 use mathlib.Core.Path.{_≡_}
@@ -7,14 +8,17 @@ use mathlib.Core.Bool.{Bool, true, false, not, _&&_, _||_, cond}
 use mathlib.Core.List.{List, [], _∷_, _++_}
 use lib.ListN.{length, replicate}
 use lib.Dec.{leb, eqb}
-use Rattle.lists.specs.Tests.{every, count, countFrom}
+use Rattle.lists.specs.Tests.{every, count, countFrom, All}
 use Rattle.model.specs.Params.{Params, InRange, delay}
-use Rattle.model.specs.State.{Node, Domain, Step, Free, Reachable, Retired, Fast, Fallback, nodeOf, processOf, hazardOf, withParams}
+use Rattle.model.specs.State.{Node, Domain, Step, Free, Reachable, Retired, Fast, Fallback, nodeOf, processOf}
+use Rattle.model.specs.State.{hazardOf, withParams}
 use Rattle.model.specs.WellFormed.{WellFormed}
 use Rattle.model.specs.Kinds.{Meaning, means, rowOf, kindOf, Unread}
-use Rattle.model.specs.Retire.{ageOf, oldEnough, aged, scan}
-use Rattle.model.specs.Why.{Reason, NotRetired, Young, Visible, Ready, Behind, NotAsked, Nobody, Lagging, Why, shownAt, why}
-use Rattle.model.specs.Machine.{Outcome, step, run, fresh}
+use Rattle.model.specs.Retire.{retiredBy, ageOf, oldEnough, aged, within, scan}
+use Rattle.model.specs.Portion.{Scanned, limitInRange, portion}
+use Rattle.model.specs.Why.{Reason, NotRetired, Young, Visible, Ready, Behind, NotAsked, Nobody, Lagging, Why}
+use Rattle.model.specs.Why.{shownAt, why}
+use Rattle.model.specs.Machine.{Outcome, PortionAnswer, step, run, portionStep, portioned, fresh}
 use Rattle.model.specs.Reference.{Cell, Reference, Command, initial, cellAt, rowAt, pointerAt, asks}
 use Rattle.model.specs.Reference.{follow, valueOf, freeEach, EachFreeable}
 
@@ -94,9 +98,9 @@ RemoveTakenBack =
     (d : Domain) (s t : Step) → WellFormed d → TakenBack s t → step d s .refusal ≡ 0
     → step (step d s .after) t ≡ record { refusal = 0; value = 0; after = d }
 
--- the kinds whose value is nodes freed: retire and manage
+-- the kinds whose value is nodes freed: retire, manage and portion
 abbrev pub reportsFreed : ℕ → Bool
-reportsFreed k = eqb k 8 || eqb k 12
+reportsFreed k = eqb k 8 || (eqb k 12 || eqb k 17)
 
 -- the nodes that a step is to free: as many as it reports
 abbrev pub freedCount : Step → Outcome → ℕ
@@ -276,3 +280,67 @@ pub record Exact (d : Domain) (c : ℕ) (w : Why) : Type 0 where
 -- whoever its owner is, absent or not
 abbrev pub WhyIsExact : Type 0
 WhyIsExact = (d : Domain) (c : ℕ) → WellFormed d → Exact d c (why d c)
+
+-- ---- A scan in portions
+
+-- the call and the step are one: the same refusal, as many nodes freed, the same domain after
+abbrev pub stepOfPortion : PortionAnswer → Outcome
+stepOfPortion x = record { refusal = x .refusal; value = x .freed; after = x .after }
+
+abbrev pub PortionIsStep : Type 0
+PortionIsStep = (d : Domain) (p a l : ℕ) → step d (portionStep p a l) ≡ stepOfPortion (portioned d p a l)
+
+-- the Retired nodes of process p from node a up to node b, that one left out
+abbrev pub retiredWithin : Domain → ℕ → ℕ → ℕ → ℕ
+retiredWithin d p a b = countFrom (λ c n. within a b c && retiredBy p n) 0 (d .nodes)
+
+-- what portion x of process p, from node a with limit l, says of domain d before it
+pub record ExactPortion (d : Domain) (p a l : ℕ) (x : Scanned) : Type 0 where
+  -- whoever goes on from there ends
+  pub goesOn : a < x .next
+  pub inside : x .next ≤ d .params .nodes
+  pub examined : x .examined ≡ retiredWithin d p a (x .next)
+  pub most : x .examined ≤ l
+  -- where fewer than l are met it comes to the end, and else the node before the one to go on from is the l-th
+  pub fewer : x .examined < l → x .next ≡ d .params .nodes
+  pub last : x .examined ≡ l → retiredBy p (nodeOf d (x .next - 1)) ≡ true
+  -- before it and after it
+  pub left : x .left ≡ retiredWithin d p (x .next) (d .params .nodes)
+  pub still : x .left ≡ retiredWithin (x .after) p (x .next) (d .params .nodes)
+
+abbrev pub PortionIsExact : Type 0
+PortionIsExact =
+    (d : Domain) (p a l : ℕ) → WellFormed d → a < d .params .nodes → 1 ≤ l → ExactPortion d p a l (portion d p a l)
+
+-- portions of one process in a row: the nodes freed in all, the node to go on from, the domain after them
+pub record InPortions : Type 0 where
+  pub freed : ℕ
+  pub next : ℕ
+  pub after : Domain
+
+abbrev pub freeingMore : ℕ → InPortions → InPortions
+freeingMore n x = record { freed = n + x .freed; next = x .next; after = x .after }
+
+-- with these limits, the first from node a and each from where the one before ended, until a call is refused, as it is at the end (7)
+abbrev pub portions : Domain → ℕ → ℕ → List ℕ → InPortions
+portions d p a [] = record { freed = 0; next = a; after = d }
+portions d p a (l ∷ ls) =
+    cond (eqb (portioned d p a l .refusal) 0)
+    (freeingMore (portioned d p a l .freed) (portions (portioned d p a l .after) p (portioned d p a l .next) ls))
+    (record { freed = 0; next = a; after = d })
+
+-- from node 0 to the end they free what one scan frees, and leave its domain
+pub record WholeScan (d : Domain) (p : ℕ) (x : InPortions) : Type 0 where
+  pub freed : x .freed ≡ scan d p .value
+  pub after : x .after ≡ scan d p .after
+
+abbrev pub PortionsAreScan : Type 0
+PortionsAreScan =
+    (d : Domain) (p : ℕ) (ls : List ℕ) → WellFormed d → portions d p 0 ls .next ≡ d .params .nodes
+    → WholeScan d p (portions d p 0 ls)
+
+-- whoever is there comes to the end, with as many limits in range as there are nodes
+abbrev pub PortionsEnd : Type 0
+PortionsEnd =
+    (d : Domain) (p : ℕ) (ls : List ℕ) → WellFormed d → p < d .params .processes → processOf d p .present ≡ 1
+    → All (λ l. limitInRange l ≡ true) ls → d .params .nodes ≤ length ls → portions d p 0 ls .next ≡ d .params .nodes

@@ -9,18 +9,18 @@ use Rattle.model.specs.Params.{Params, paramsOf, InRange, wordCount}
 use Rattle.model.specs.State.{Domain, Step}
 use Rattle.model.specs.WellFormed.{WellFormed}
 use Rattle.model.specs.Kinds.{kindCount}
-use Rattle.model.specs.Machine.{step, run, fresh}
+use Rattle.model.specs.Machine.{step, run, portioned, fresh}
 use Rattle.model.specs.Retire.{retiredBy}
 use Rattle.model.specs.Reference.{Reference, initial}
 use Rattle.model.specs.Claims.{reachableCount, raises, lowers, acceptedOf, led, History, noHistory, recorded}
 use Rattle.model.specs.Claims.{bound}
 use Rattle.model.specs.Cases.{Answer, gives, refuses, oks, answersBy, stepOf, allocate, publish, protect, check}
 use Rattle.model.specs.Cases.{use', clear, remove, retire, drain, flush, tick, manage, clearPresence, reinsert}
-use Rattle.model.specs.Cases.{leave, join}
+use Rattle.model.specs.Cases.{leave, join, portion, Numbers, numbersOf, tells, declines}
 use Rattle.model.specs.Cases.{turnover, shownToAll, stopAndBack, params, store, hazard, process, asleep, free}
 use Rattle.model.specs.Cases.{allocated}
 use Rattle.model.specs.Cases.{reachable, removed, retired}
-use Rattle.model.specs.Cases.{domain, stray}
+use Rattle.model.specs.Cases.{domain, stray, crowd, crowded}
 
 pub data Case : Type 0 where
   -- parameters, and the number of words
@@ -31,6 +31,9 @@ pub data Case : Type 0 where
   Tally : Domain → List Step → ℕ → ℕ → ℕ → Case
   -- parameters, steps from a fresh domain by which nothing is freed, a process, its Retired nodes afterwards, and the bound on them
   Unfreed : Params → List Step → ℕ → ℕ → ℕ → Case
+  -- a domain, a portion of it as a call: its process, the node that it starts from and its limit; its five numbers, and the whole
+  -- domain afterwards
+  Portion : Domain → ℕ → ℕ → ℕ → Numbers → Domain → Case
 
 -- what the bound looks back on after steps by which nothing is freed
 abbrev pub noting : Reference → Domain → History → List Step → History
@@ -46,6 +49,7 @@ Holds (Tally d ss up down n) =
 Holds (Unfreed a ss p n b) =
     (count (retiredBy p) (run (fresh a) ss .nodes) ≡ n)
     × (bound a (noting (initial (a .processes) (a .hazards) (a .nodes)) (fresh a) noHistory ss) p ≡ b)
+Holds (Portion d p a l x e) = (numbersOf (portioned d p a l) ≡ x) × (portioned d p a l .after ≡ e)
 
 -- no case is about a domain that every call would refuse with 3: parameters in range, a well-formed start
 abbrev pub StartsWell : Case → Type 0
@@ -53,6 +57,7 @@ StartsWell (Length a n) = InRange a
 StartsWell (Run d ss xs e) = WellFormed d
 StartsWell (Tally d ss up down n) = WellFormed d
 StartsWell (Unfreed a ss p n b) = InRange a
+StartsWell (Portion d p a l x e) = WellFormed d
 
 -- a clock that cannot go on, and a pending store that is 3 old
 abbrev pub stopped : Domain
@@ -79,7 +84,7 @@ overdue =
 abbrev pub stepsOf : ℕ → List Step
 stepsOf p =
     allocate p 0 70 ∷ publish p 0 ∷ protect p 0 0 ∷ check p 0 ∷ use' p 0 ∷ clear p 0 ∷ remove p 0 ∷ retire p 0 ∷ drain p ∷ flush p
-    ∷ manage p ∷ reinsert p 0 ∷ leave p 0 ∷ []
+    ∷ manage p ∷ reinsert p 0 ∷ leave p 0 ∷ portion p 0 1 ∷ []
 
 abbrev pub cases : List Case
 cases =
@@ -220,7 +225,7 @@ cases =
     ∷ Tally (fresh (params 2 1 1 1 1 1)) (reinsert 1 0 ∷ stopAndBack 1 ++ reinsert 1 0 ∷ []) 2 1 1
     -- request 3: a worker that has left gets 20 at every kind, before 6 and 7; so does the join of one that is present
     ∷ Run (fresh (params 2 1 1 1 1 1)) (join 0 ∷ leave 1 0 ∷ stepsOf 1 ++ protect 1 9 9 ∷ join 2 ∷ leave 2 0 ∷ [])
-    (refuses 20 ∷ gives 0 ∷ replicate 13 (refuses 20) ++ refuses 20 ∷ refuses 5 ∷ refuses 5 ∷ [])
+    (refuses 20 ∷ gives 0 ∷ replicate 14 (refuses 20) ++ refuses 20 ∷ refuses 5 ∷ refuses 5 ∷ [])
     (domain (params 2 1 1 1 1 1) 0 0 0
     (process 0 0 0 [] (hazard 0 0 0 ∷ []) ∷ asleep 0 0 0 [] (hazard 0 0 0 ∷ []) ∷ [])
     (free ∷ []))
@@ -318,4 +323,69 @@ cases =
     -- the bound counts what was retired over T + E ticks: 1 and 4, of which T alone would count 2
     ∷ Unfreed (paramsOf 1 1 4 1 1 1 2)
     (turnover 0 0 70 ++ tick ∷ turnover 0 1 71 ++ tick ∷ turnover 0 2 72 ++ tick ∷ turnover 0 3 73) 0 4 5
+    -- request 7: of five Retired cards two are examined, of which the one of age T is kept; three are left, worker 1's card not among them
+    ∷ Portion crowded 0 0 2
+    (tells 1 2 3 3)
+    (crowd (free ∷ removed 0 71 ∷ retired 0 72 3 1 ∷ retired 1 73 0 0 ∷ retired 0 74 0 0 ∷ retired 0 75 1 2 ∷ retired 0 76 2 0 ∷ []))
+    -- from worker 1's card on: that one is not examined, and the next, which is on the board, is examined and kept
+    ∷ Portion crowded 0 3 1 (tells 0 1 5 2) crowded
+    -- the L-th is the last card: the card to go on from is M
+    ∷ Portion crowded 0 3 3
+    (tells 2 3 7 0) (crowd (retired 0 70 0 0 ∷ removed 0 71 ∷ retired 0 72 3 1 ∷ retired 1 73 0 0 ∷ retired 0 74 0 0 ∷ free ∷ free ∷ []))
+    -- the L-th is the last of the worker's Retired cards, and not the last card: the card to go on from is the one after it
+    ∷ Portion crowded 1 0 1
+    (tells 1 1 4 0)
+    (crowd (retired 0 70 0 0 ∷ removed 0 71 ∷ retired 0 72 3 1 ∷ free ∷ retired 0 74 0 0 ∷ retired 0 75 1 2 ∷ retired 0 76 2 0 ∷ []))
+    -- fewer than L: it is M
+    ∷ Portion crowded 1 0 2
+    (tells 1 1 7 0)
+    (crowd (retired 0 70 0 0 ∷ removed 0 71 ∷ retired 0 72 3 1 ∷ free ∷ retired 0 74 0 0 ∷ retired 0 75 1 2 ∷ retired 0 76 2 0 ∷ []))
+    -- none at all
+    ∷ Portion crowded 1 4 1 (tells 0 0 7 0) crowded
+    -- from the last card
+    ∷ Portion crowded 0 6 1
+    (tells 1 1 7 0)
+    (crowd (retired 0 70 0 0 ∷ removed 0 71 ∷ retired 0 72 3 1 ∷ retired 1 73 0 0 ∷ retired 0 74 0 0 ∷ retired 0 75 1 2 ∷ free ∷ []))
+    -- L = 256
+    ∷ Portion crowded 0 0 256
+    (tells 3 5 7 0) (crowd (free ∷ removed 0 71 ∷ retired 0 72 3 1 ∷ retired 1 73 0 0 ∷ retired 0 74 0 0 ∷ free ∷ free ∷ []))
+    -- L = 0 and L = 257: 23
+    ∷ Portion crowded 0 0 0 (declines 23) crowded
+    ∷ Portion crowded 0 0 257 (declines 23) crowded
+    -- the start card is M: 7, and 7 before 23
+    ∷ Portion crowded 0 7 1 (declines 7) crowded
+    ∷ Portion crowded 0 7 0 (declines 7) crowded
+    -- worker N: 5 before both; an absent worker: 20 before both
+    ∷ Portion crowded 2 7 0 (declines 5) crowded
+    ∷ Portion parked 1 2 0 (declines 20) parked
+    -- an absent worker's slot is on the board
+    ∷ Portion parked 0 0 1 (tells 0 1 1 0) parked
+    -- a card in the worker's own mail is kept, and the one that its slot is armed with is freed
+    ∷ Portion stray 0 0 2
+    (tells 1 2 2 0)
+    (domain (params 1 1 3 1 1 1) 2 1 0
+    (process 0 0 0 (store 0 1 2 ∷ []) (hazard 0 2 0 ∷ []) ∷ [])
+    (retired 0 70 0 0 ∷ free ∷ free ∷ []))
+    -- as steps: an own slot cleared and still in the mail, its card old: freed
+    ∷ Run (fresh (params 1 1 2 1 1 1)) (shownToAll 0 ++ clear 0 0 ∷ portion 0 0 1 ∷ [])
+    (oks 9 ++ gives 1 ∷ [])
+    (domain (params 1 1 2 1 1 1) 2 1 0 (process 0 0 0 (store 0 0 2 ∷ []) (hazard 1 0 0 ∷ []) ∷ []) (free ∷ free ∷ []))
+    -- T = 1000 and E = 1000: at age 2000 a portion keeps the card, at 2001 it frees it
+    ∷ Run overdue (tick ∷ portion 0 0 1 ∷ flush 0 ∷ tick ∷ portion 0 0 1 ∷ [])
+    (oks 4 ++ gives 1 ∷ [])
+    (domain (paramsOf 1 1 3 1000 1 1 1000) 2001 1 0 (process 0 0 0 [] (hazard 0 0 0 ∷ []) ∷ []) (free ∷ free ∷ free ∷ []))
+    -- on the fast path, with C Retired cards since worker 1 left: path and presence stay as they are
+    ∷ Run (fresh (params 2 1 2 1 1 2)) (manage 0 ∷ turnover 1 0 70 ++ turnover 0 1 71 ++ tick ∷ tick ∷ leave 1 0 ∷ portion 0 0 256 ∷ [])
+    (oks 12 ++ gives 1 ∷ [])
+    (domain (params 2 1 2 1 1 2) 2 0 1
+    (process 0 0 1 [] (hazard 0 0 0 ∷ []) ∷ asleep 0 0 0 [] (hazard 0 0 0 ∷ []) ∷ [])
+    (retired 0 70 2 0 ∷ free ∷ []))
+    -- portions from card 0 on, each from where the one before ended, a use and refused ones between: a retire's scan finds nothing then
+    ∷ Run crowded (portion 0 0 2 ∷ portion 0 3 0 ∷ portion 0 3 2 ∷ use' 1 0 ∷ portion 0 6 257 ∷ portion 0 6 2 ∷ portion 0 7 2 ∷ retire 0 1 ∷ [])
+    (gives 1 ∷ refuses 23 ∷ gives 1 ∷ gives 74 ∷ refuses 23 ∷ gives 1 ∷ refuses 7 ∷ gives 0 ∷ [])
+    (crowd (free ∷ retired 0 71 4 0 ∷ retired 0 72 3 1 ∷ retired 1 73 0 0 ∷ retired 0 74 0 0 ∷ free ∷ free ∷ []))
+    -- without them it frees the three, and leaves the same desk
+    ∷ Run crowded (retire 0 1 ∷ [])
+    (gives 3 ∷ [])
+    (crowd (free ∷ retired 0 71 4 0 ∷ retired 0 72 3 1 ∷ retired 1 73 0 0 ∷ retired 0 74 0 0 ∷ free ∷ free ∷ []))
     ∷ []

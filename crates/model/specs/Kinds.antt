@@ -9,13 +9,13 @@ use Rattle.model.specs.State.{Free, Allocated, Reachable, Removed}
 
 -- Flush is the paper's rooster, ClearPresence its roll call, Reinsert its repost
 pub data Kind : Type 0 where
-  Allocate Publish Protect Check Use Clear Remove Retire Drain Flush Tick Manage ClearPresence Reinsert Leave Join Unknown : Kind
+  Allocate Publish Protect Check Use Clear Remove Retire Drain Flush Tick Manage ClearPresence Reinsert Leave Join Portion Unknown : Kind
 
 -- every kind that there is, in the order of their numbers from 1 on. How many there are is said by this list alone
 abbrev pub kinds : List Kind
 kinds =
     Allocate ∷ Publish ∷ Protect ∷ Check ∷ Use ∷ Clear ∷ Remove ∷ Retire ∷ Drain ∷ Flush ∷ Tick ∷ Manage ∷ ClearPresence
-    ∷ Reinsert ∷ Leave ∷ Join ∷ []
+    ∷ Reinsert ∷ Leave ∷ Join ∷ Portion ∷ []
 
 abbrev pub kindCount : ℕ
 kindCount = length kinds
@@ -42,14 +42,15 @@ numberOf ClearPresence = 13
 numberOf Reinsert = 14
 numberOf Leave = 15
 numberOf Join = 16
+numberOf Portion = 17
 numberOf Unknown = 0
 
 abbrev pub is : Kind → Kind → Bool
 is j k = eqb (numberOf j) (numberOf k)
 
--- what a field of a step is to a kind. The last is a number with no range of its own
+-- what a field of a step is to a kind. Number is one with no range of its own, Limit how many nodes a portion may examine
 pub data Meaning : Type 0 where
-  Unread ProcessId HazardId NodeId Number : Meaning
+  Unread ProcessId HazardId NodeId Number Limit : Meaning
 
 abbrev pub rank : Meaning → ℕ
 rank Unread = 0
@@ -57,6 +58,7 @@ rank ProcessId = 1
 rank HazardId = 2
 rank NodeId = 3
 rank Number = 4
+rank Limit = 5
 
 abbrev pub means : Meaning → Meaning → Bool
 means m n = eqb (rank m) (rank n)
@@ -107,4 +109,6 @@ rowOf Reinsert = owning (needing Removed (reading ProcessId Unread NodeId Unread
 -- its node field is a second process, which takes over
 rowOf Leave = reading ProcessId Unread ProcessId Unread
 rowOf Join = reading ProcessId Unread Unread Unread
+-- its node field is where it starts, its guest field a limit
+rowOf Portion = reading ProcessId Unread NodeId Limit
 rowOf Unknown = reading Unread Unread Unread Unread

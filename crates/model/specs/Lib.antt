@@ -6,6 +6,7 @@ pub mod Hazards
 pub mod Retire
 pub mod Epochs
 pub mod Leave
+pub mod Portion
 pub mod Questions
 pub mod Machine
 pub mod Why
@@ -15,3 +16,4 @@ pub mod Cases
 pub mod Edge
 pub mod Mistakes
 pub mod ToldApart
+pub mod PortionMistakes

@@ -7,12 +7,15 @@ use lib.Dec.{eqb}
 use Rattle.model.specs.Params.{Params}
 use Rattle.model.specs.State.{Node, Domain, Step, Allocated, Reachable, Removed, Fast, freeNode}
 use Rattle.model.specs.State.{emptyHazard, nodeOf, setNode, setProcess, withClock, clearPresence}
-use Rattle.model.specs.Kinds.{Kind, kindOf, Allocate, Publish, Protect, Check, Use, Clear, Remove, Retire}
-use Rattle.model.specs.Kinds.{Drain, Flush, Tick, Manage, ClearPresence, Reinsert, Leave, Join, Unknown}
+use Rattle.model.specs.Kinds.{Kind, kindOf, numberOf, Allocate, Publish, Protect, Check, Use, Clear, Remove}
+use Rattle.model.specs.Kinds.{Retire}
+use Rattle.model.specs.Kinds.{Drain, Flush, Tick, Manage, ClearPresence, Reinsert, Leave, Join, Portion}
+use Rattle.model.specs.Kinds.{Unknown}
 use Rattle.model.specs.Hazards.{here, target, assign, validating, drained, flushed}
 use Rattle.model.specs.Retire.{Effect, effect, marked, reclaim}
 use Rattle.model.specs.Epochs.{manage}
 use Rattle.model.specs.Leave.{leave, join}
+use Rattle.model.specs.Portion.{Scanned, portion}
 use Rattle.model.specs.Questions.{refusalOf}
 
 -- the refusal number, 0 for accepted; the value; and the domain afterwards
@@ -57,6 +60,7 @@ act ClearPresence d s = effect 0 (clearPresence d)
 act Reinsert d s = effect 0 (setNode d (s .node) (publishing (nodeOf d (s .node))))
 act Leave d s = effect 0 (leave d (s .process) (s .node))
 act Join d s = effect 0 (join d (s .process))
+act Portion d s = effect (portion d (s .process) (s .node) (s .guest) .freed) (portion d (s .process) (s .node) (s .guest) .after)
 act Unknown d s = effect 0 d
 
 -- a refusal number turns the effect away
@@ -68,6 +72,32 @@ stepAs k d s = answered (refusalOf k d s) d (act k d s)
 
 unfoldable pub step : Domain → Step → Outcome
 step d s = stepAs (kindOf (s .kind)) d s
+
+-- ---- 17 as a call of its own, with an answer of its own
+
+-- all 0 where it is refused
+pub record PortionAnswer : Type 0 where
+  pub refusal : ℕ
+  pub freed : ℕ
+  pub examined : ℕ
+  pub next : ℕ
+  pub left : ℕ
+  pub after : Domain
+
+abbrev pub declined : ℕ → Domain → PortionAnswer
+declined n d = record { refusal = n; freed = 0; examined = 0; next = 0; left = 0; after = d }
+
+abbrev pub taken : Scanned → PortionAnswer
+taken x = record { refusal = 0; freed = x .freed; examined = x .examined; next = x .next; left = x .left; after = x .after }
+
+-- by process p, from node a, with limit l
+abbrev pub portionStep : ℕ → ℕ → ℕ → Step
+portionStep p a l = record { kind = numberOf Portion; process = p; hazard = 0; node = a; guest = l }
+
+-- its questions are those of the step
+unfoldable pub portioned : Domain → ℕ → ℕ → ℕ → PortionAnswer
+portioned d p a l =
+    cond (eqb (refusalOf Portion d (portionStep p a l)) 0) (taken (portion d p a l)) (declined (refusalOf Portion d (portionStep p a l)) d)
 
 -- the domain after a list of steps
 abbrev pub run : Domain → List Step → Domain

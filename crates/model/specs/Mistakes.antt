@@ -1,6 +1,6 @@
--- Thirty plausible mistakes, each as a machine that is wrong in one place; the schedules that tell them from the rules stand in
+-- Forty plausible mistakes, each as a machine that is wrong in one place; the schedules that tell them from the rules stand in
 -- ToldApart.antt. Assumes nothing.
-use Prim.Native.Nat.{ℕ, suc, _+_, _-_}
+use Prim.Native.Nat.{ℕ, suc, _+_, _-_, min}
 use mathlib.Core.Bool.{Bool, true, not, _&&_, _||_, cond}
 use mathlib.Core.List.{List, [], _∷_, _++_, map}
 use lib.Dec.{leb, ltb, eqb}
@@ -10,12 +10,14 @@ use Rattle.model.specs.State.{Pending, Hazard, Process, Node, Domain, St
 use Rattle.model.specs.State.{Fallback, nodeOf, processOf, setNode, withNodes, withPath, withStores, setProcess}
 use Rattle.model.specs.State.{withEpoch, withPresent, isPresent, nextEpoch}
 use Rattle.model.specs.Kinds.{Kind, is, kindOf, Protect, Check, Clear, Retire, Tick, Manage, Reinsert, Leave}
-use Rattle.model.specs.Kinds.{Join}
+use Rattle.model.specs.Kinds.{Join, Portion}
 use Rattle.model.specs.Hazards.{here, target}
-use Rattle.model.specs.Retire.{Effect, effect, retiredBy, ownFrom, visibleTo, aged, due, freeing, marked}
+use Rattle.model.specs.Retire.{Effect, effect, retiredBy, ownFrom, visibleTo, aged, due, within, freeing}
+use Rattle.model.specs.Retire.{marked}
 use Rattle.model.specs.Retire.{retiring, overfull, fallBack}
 use Rattle.model.specs.Epochs.{counted}
 use Rattle.model.specs.Leave.{ownedBy}
+use Rattle.model.specs.Portion.{endOf}
 use Rattle.model.specs.Questions.{ask, firstNo, questions, refusalOf}
 use Rattle.model.specs.Machine.{Outcome, act, answered}
 use Rattle.model.specs.Cases.{params}
@@ -253,3 +255,57 @@ abbrev pub lateTwice : Domain → Step → Outcome
 lateTwice d s =
     cond (is (kindOf (s .kind)) Tick) (asking 16 Tick (λ d s. youngerThan (λ a. delay a + a .lateness) d) d s)
     (scansAt (λ a. delay a + a .lateness) d s)
+
+-- ---- ten, in a portion of a scan
+
+-- a portion from node a with limit l: it starts at start a, goes up to where end says, and frees what passes
+abbrev pub portionBy : (ℕ → ℕ) → (Domain → ℕ → ℕ → ℕ → ℕ) → (Domain → ℕ → ℕ → Node → Bool) → Domain → Step → Outcome
+portionBy start end passes =
+    doing (λ k d s.
+    cond (is k Portion)
+    (freeing d (λ c n. within (start (s .node)) (end d (s .process) (start (s .node)) (s .guest)) c && passes d (s .process) c n))
+    (act k d s))
+
+-- the right nodes, and of them those that pass
+abbrev pub portionFrees : (Domain → ℕ → ℕ → Node → Bool) → Domain → Step → Outcome
+portionFrees = portionBy (λ a. a) endOf
+
+-- it frees whatever the age
+abbrev pub portionFreesYoung : Domain → Step → Outcome
+portionFreesYoung = portionFrees (λ d p c n. retiredBy p n && lacks (visibleTo d p) (suc c))
+
+-- it looks at no hazard
+abbrev pub portionUnseen : Domain → Step → Outcome
+portionUnseen = portionFrees (λ d p c n. retiredBy p n && aged d n)
+
+-- own pending stores are not known
+abbrev pub portionOwnUnknown : Domain → Step → Outcome
+portionOwnUnknown = portionFrees (λ d p c n. retiredBy p n && (aged d n && lacks (seenFrom (λ own x. shown x) p 0 (d .processes)) (suc c)))
+
+-- the Retired nodes of all processes are taken
+abbrev pub portionTakesOthers : Domain → Step → Outcome
+portionTakesOthers = portionFrees (λ d p c n. eqb (n .state) Retired && (aged d n && lacks (visibleTo d p) (suc c)))
+
+-- the limit is on the nodes looked at, and not on the Retired ones
+abbrev pub portionOfNodes : Domain → Step → Outcome
+portionOfNodes = portionBy (λ a. a) (λ d p a l. min (a + l) (d .params .nodes)) due
+
+-- there is no limit
+abbrev pub portionUnlimited : Domain → Step → Outcome
+portionUnlimited = portionBy (λ a. a) (λ d p a l. d .params .nodes) due
+
+-- it starts from node 0
+abbrev pub portionFromZero : Domain → Step → Outcome
+portionFromZero = portionBy (λ a. 0) endOf due
+
+-- a limit of 0 is taken
+abbrev pub portionOfNone : Domain → Step → Outcome
+portionOfNone = asking 23 Portion (λ d s. leb (s .guest) 256)
+
+-- a limit above 256 is taken
+abbrev pub portionOfMore : Domain → Step → Outcome
+portionOfMore = asking 23 Portion (λ d s. leb 1 (s .guest))
+
+-- a portion may start past the last node
+abbrev pub portionPastLast : Domain → Step → Outcome
+portionPastLast = asking 7 Portion (λ d s. true)

@@ -64,6 +64,10 @@ pub record InRange (a : Params) : Type 0 where
   pub fallbackThreshold : Between 1 mostRetired (a .fallbackThreshold)
   pub lateness : a .lateness ≤ mostLateness
 
+-- the most nodes that a portion of a scan may be told to examine
+abbrev pub mostExamined : ℕ
+mostExamined = 256
+
 -- the most pending stores that a process's buffer holds (8 mail entries)
 abbrev pub bufferSize : ℕ
 bufferSize = 8

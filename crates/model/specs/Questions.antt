@@ -1,4 +1,4 @@
--- The questions before a step, numbers 4 to 17 and 20 to 22 in the papers' order; ranges and states are decided by the table. Assumes nothing.
+-- The questions before a step, numbers 4 to 17 and 20 to 23 in the papers' order; ranges and states are decided by the table. Assumes nothing.
 use Prim.Native.Nat.{ℕ}
 use mathlib.Core.Bool.{Bool, not, _||_, cond}
 use mathlib.Core.List.{List, [], _∷_}
@@ -7,10 +7,11 @@ use lib.Dec.{ltb, eqb}
 use Rattle.lists.specs.Tests.{every, implies}
 use Rattle.model.specs.Params.{bufferSize, lastClock}
 use Rattle.model.specs.State.{Domain, Step, Reachable, nodeOf}
-use Rattle.model.specs.Kinds.{Kind, is, means, meets, rowOf, ProcessId, HazardId, NodeId, Protect, Check}
-use Rattle.model.specs.Kinds.{Use, Clear, Drain, Tick, Manage, Leave, Join, Unknown}
+use Rattle.model.specs.Kinds.{Kind, is, means, meets, rowOf, ProcessId, HazardId, NodeId, Limit, Protect}
+use Rattle.model.specs.Kinds.{Check, Use, Clear, Drain, Tick, Manage, Leave, Join, Unknown}
 use Rattle.model.specs.Hazards.{here, pointer, target, young, unassigned}
 use Rattle.model.specs.Leave.{unburdened, takesOver}
+use Rattle.model.specs.Portion.{limitInRange}
 
 -- a question by its number, and whether its answer is yes
 pub record Question : Type 0 where
@@ -42,6 +43,7 @@ questions k d s =
     ∷ ask 22 (implies (is k Leave) (takesOver d (s .process) (s .node)))
     ∷ ask 6 (implies (means (rowOf k .hazard) HazardId) (ltb (s .hazard) (d .params .hazards)))
     ∷ ask 7 (implies (means (rowOf k .node) NodeId) (nodeInRange d (s .node)))
+    ∷ ask 23 (implies (means (rowOf k .guest) Limit) (limitInRange (s .guest)))
     ∷ ask 8 (meets (rowOf k .needs) (nodeOf d (s .node) .state))
     ∷ ask 9 (implies (rowOf k .owns) (eqb (nodeOf d (s .node) .owner) (s .process)))
     ∷ ask 10 (implies (is k Check) (not (eqb (pointer d s .assigned) 0)))

@@ -5,7 +5,7 @@ use mathlib.Core.Path.{_≡_}
 use mathlib.Core.Bool.{Bool, not, _&&_, cond}
 use mathlib.Core.List.{List, [], _∷_, map}
 use lib.ListN.{getD, set, replicate}
-use lib.Dec.{ltb, eqb}
+use lib.Dec.{leb, ltb, eqb}
 
 -- a card: state 0 Free, 1 Allocated, 2 Reachable, 3 Removed, 4 Retired
 pub record Cell : Type 0 where
@@ -89,7 +89,7 @@ pointerOf q s = pointerAt q (s .process) (s .hazard)
 abbrev pub pointedBy : Reference → Command → Cell
 pointedBy q s = cellAt q (pointerOf q s .assigned - 1)
 
--- ---- its questions: worker below N, slot below K, card below M, the card in a state, the card owned
+-- ---- its questions: worker below N, slot below K, card below M, a limit of 1 to 256, the card in a state, the card owned
 abbrev pub process? : Reference → Command → Bool
 process? q s = ltb (s .process) (q .processes)
 
@@ -99,13 +99,16 @@ hazard? q s = ltb (s .hazard) (q .hazards)
 abbrev pub node? : Reference → Command → Bool
 node? q s = ltb (s .node) (q .nodes)
 
+abbrev pub limit? : Command → Bool
+limit? s = leb 1 (s .guest) && leb (s .guest) 256
+
 abbrev pub state? : ℕ → Reference → Command → Bool
 state? k q s = eqb (cellOf q s .state) k
 
 abbrev pub owner? : Reference → Command → Bool
 owner? q s = eqb (cellOf q s .owner) (s .process)
 
--- what it asks itself at steps 1 to 8 and 14 to 16; nothing at any other
+-- what it asks itself at steps 1 to 8 and 14 to 17; nothing at any other
 unfoldable pub asks : Reference → Command → List Bool
 asks q s =
     cond (eqb (s .kind) 1) (process? q s ∷ node? q s ∷ state? 0 q s ∷ [])
@@ -120,7 +123,8 @@ asks q s =
     (cond (eqb (s .kind) 14) (process? q s ∷ node? q s ∷ state? 3 q s ∷ owner? q s ∷ [])
     (cond (eqb (s .kind) 15) (process? q s ∷ [])
     (cond (eqb (s .kind) 16) (process? q s ∷ [])
-    []))))))))))
+    (cond (eqb (s .kind) 17) (process? q s ∷ node? q s ∷ limit? s ∷ [])
+    [])))))))))))
 
 -- a Retired card of worker p becomes one of worker r's
 abbrev pub passed : ℕ → ℕ → Cell → Cell

@@ -1,4 +1,4 @@
--- A closed schedule for each of the thirty mistakes, on which it answers otherwise than the rules or leaves another number in the domain. Both
+-- A closed schedule for each of the forty mistakes, on which it answers otherwise than the rules or leaves another number in the domain. Both
 -- lists are written by hand. Assumes nothing.
 use Prim.Native.Nat.{ℕ}
 use mathlib.Core.List.{List, [], _∷_, _++_, map}
@@ -11,7 +11,7 @@ use Rattle.model.specs.State.{nodeOf}
 use Rattle.model.specs.Machine.{Outcome, step, fresh}
 use Rattle.model.specs.Claims.{reachableCount}
 use Rattle.model.specs.Cases.{Answer, gives, refuses, oks, answersBy, runBy, allocate, publish, protect, check}
-use Rattle.model.specs.Cases.{use', clear, remove, retire, flush, tick, manage, reinsert, leave, join}
+use Rattle.model.specs.Cases.{use', clear, remove, retire, flush, tick, manage, reinsert, leave, join, portion}
 use Rattle.model.specs.Cases.{turnover, shownToAll, stopAndBack, params, stray}
 use Rattle.model.specs.Mistakes.{freesAtAgeT, noStoreOnFastPath, freesTwoEpochsOn, scansCurrentListOnly}
 use Rattle.model.specs.Mistakes.{keepsPresence, noVisibleTest, tickOneLate, noQuestion17, checksRemoved, overC}
@@ -19,7 +19,10 @@ use Rattle.model.specs.Mistakes.{ownUnknown, ownFirst, ownAssigned, othe
 use Rattle.model.specs.Mistakes.{reinsertKeepsOwner, reinsertByAnyone, reinsertTakesRetired, reinsertLosesGuest}
 use Rattle.model.specs.Mistakes.{reinsertNotRaised, leaveKeepsStamp, leaveKeepsLimbo, leavesNodesBehind}
 use Rattle.model.specs.Mistakes.{waitsForEpoch, waitsForPresence, absentActs, joinKeepsEpoch, scanNotLate}
-use Rattle.model.specs.Mistakes.{tickNotLate, lateTwice}
+use Rattle.model.specs.Mistakes.{tickNotLate, lateTwice, portionFreesYoung, portionUnseen, portionOwnUnknown}
+use Rattle.model.specs.Mistakes.{portionTakesOthers, portionOfNodes, portionUnlimited, portionFromZero}
+use Rattle.model.specs.Mistakes.{portionOfNone}
+use Rattle.model.specs.Mistakes.{portionOfMore, portionPastLast}
 
 pub record Mistake : Type 0 where
   pub machine : Domain → Step → Outcome
@@ -163,6 +166,33 @@ mistakes =
     ∷ mistake lateTwice (paramsOf 1 1 2 1 1 1 1)
     (turnover 0 0 70 ++ replicate 3 tick ++ turnover 0 1 60 ++ clear 0 0 ∷ replicate 3 tick)
     (oks 10 ++ gives 1 ∷ [] ++ oks 3 ++ refuses 16 ∷ []) (oks 15)
+    -- the store of process 1 is not visible yet
+    ∷ mistake portionFreesYoung (params 2 1 1 1 1 1) (claimed ++ portion 0 0 1 ∷ [] ++ reused)
+    (oks 7 ++ kept) (oks 6 ++ gives 1 ∷ [] ++ freed)
+    -- the store of process 1 is visible, and node 0 is 2 old
+    ∷ mistake portionUnseen (params 2 1 1 1 1 1) (claimed ++ flush 1 ∷ tick ∷ tick ∷ portion 0 0 1 ∷ [] ++ reused)
+    (oks 10 ++ kept) (oks 9 ++ gives 1 ∷ [] ++ freed)
+    -- process 0 has cleared its hazard, which still shows node 0 to others
+    ∷ mistake portionOwnUnknown (params 1 1 1 1 1 1) (shownToAll 0 ++ clear 0 0 ∷ portion 0 0 1 ∷ [])
+    (oks 9 ++ gives 1 ∷ []) (oks 10)
+    -- node 0 is process 1's, and node 1 process 0's
+    ∷ mistake portionTakesOthers (params 2 1 2 1 1 2) (turnover 1 0 70 ++ turnover 0 1 71 ++ tick ∷ tick ∷ portion 0 0 1 ∷ [])
+    (oks 10 ++ gives 1 ∷ []) (oks 10 ++ gives 2 ∷ [])
+    -- node 0 is not Retired, node 1 is
+    ∷ mistake portionOfNodes (params 1 1 2 1 1 2) (turnover 0 1 70 ++ tick ∷ tick ∷ portion 0 0 1 ∷ [])
+    (oks 6 ++ gives 1 ∷ []) (oks 7)
+    -- nodes 0 and 1 are due
+    ∷ mistake portionUnlimited (params 1 1 2 1 1 3) (turnover 0 0 70 ++ turnover 0 1 71 ++ tick ∷ tick ∷ portion 0 0 1 ∷ [])
+    (oks 10 ++ gives 1 ∷ []) (oks 10 ++ gives 2 ∷ [])
+    -- of the two node 1 is free then, and not node 0
+    ∷ mistake portionFromZero (params 1 1 2 1 1 3) (turnover 0 0 70 ++ turnover 0 1 71 ++ tick ∷ tick ∷ portion 0 1 1 ∷ allocate 0 0 80 ∷ [])
+    (oks 10 ++ gives 1 ∷ refuses 8 ∷ []) (oks 10 ++ gives 1 ∷ gives 0 ∷ [])
+    -- 0 is no limit
+    ∷ mistake portionOfNone (params 1 1 1 1 1 2) (portion 0 0 0 ∷ portion 0 0 1 ∷ []) (refuses 23 ∷ gives 0 ∷ []) (oks 2)
+    -- 256 is one, and 257 is none
+    ∷ mistake portionOfMore (params 1 1 1 1 1 2) (portion 0 0 256 ∷ portion 0 0 257 ∷ []) (gives 0 ∷ refuses 23 ∷ []) (oks 2)
+    -- node 1 is the last
+    ∷ mistake portionPastLast (params 1 1 2 1 1 2) (portion 0 1 1 ∷ portion 0 2 1 ∷ []) (gives 0 ∷ refuses 7 ∷ []) (oks 2)
     ∷ []
 
 -- ---- what is claimed of a mistake

@@ -4,12 +4,14 @@ use mathlib.Core.Bool.{Bool, true, false, _&&_, cond}
 use mathlib.Core.List.{List}
 use mathlib.Core.Path.{_≡_, refl, sym, ap, _∙_}
 use native.Mathlib.Omega.{arith}
+use native.Mathlib.Numerals.{add-one}
+use lib.Seq.{take-all}
 use lib.ListN.{getD, take, length-take}
 use lib.Dec.{eqb}
 use Rattle.lists.specs.Tests.{count}
-use Rattle.lists.proofs.Turns.{one-most}
+use Rattle.lists.proofs.Turns.{one-most, count-turn}
 use Rattle.lists.proofs.Counts.{count-most}
-use Rattle.model.specs.State.{Node, Reachable, Retired}
+use Rattle.model.specs.State.{Node, Reachable, Retired, freeNode}
 use Rattle.layout.specs.Nodes.{nodesIn}
 use Rattle.layout.specs.Shape.{word}
 use Rattle.limits.specs.Limits.{none, anyWord}
@@ -18,7 +20,7 @@ use Rattle.nodes.specs.Part.{nodeIn, Part}
 use Rattle.nodes.specs.NodeLimits.{inLimits}
 use Rattle.nodes.specs.Pass.{isCounted, stateWeights, GoneOver, Finds}
 use Rattle.nodes.specs.declared.pass.Known.{Known}
-use Rattle.nodes.proofs.Counting.{count-more, count-all}
+use Rattle.nodes.proofs.Words.{nodes-length}
 use Rattle.nodes.proofs.ByState.{nodes-start, nodes-turn, nodes-stop, nodes-end}
 
 -- the table has 1 for a Reachable node and 0 for the others
@@ -41,6 +43,14 @@ weight-counts n eb ew ei es h = rw (eb, ew, ei, es) (weighed (n .state) h)
 
 pub none-counts : {b : Bool} (n : Node) → b ≡ false → _≡_ {A = ℕ} 0 (cond (isCounted b n) 1 0)
 none-counts n eb = rw eb
+
+-- the count alone: a node more, and all of them
+module _ (f : Node → Bool) (m : ℕ) (r : List ℕ) (i : ℕ) {found : ℕ} (h : found ≡ count f (take i (nodesIn m r))) where
+  count-more : {v : ℕ} → i < m → v ≡ cond (f (nodeIn m r i)) 1 0 → found + v ≡ count f (take (i + 1) (nodesIn m r))
+  count-more l e = rw (add-one i) (rw (h, e) (count-turn f (nodesIn m r) i freeNode (rw (nodes-length m r) l)))
+
+  count-all : m ≤ i → found ≡ count f (nodesIn m r)
+  count-all l = h ∙ ap (count f) (take-all i (nodesIn m r) (rw (nodes-length m r) l))
 
 module _ {x b : Bool} {m : ℕ} {r ls : List ℕ} where
   pub starts : {fs : Faults} → x ≡ none fs → GoneOver x b m r ls 0 (record { faults = fs; reachable = 0 })

@@ -1,5 +1,6 @@
 pub mod Words
 pub mod Counting
+pub mod Reaching
 pub mod Passing
 pub mod Mapping
 pub mod Sweeping

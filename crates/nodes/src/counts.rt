@@ -7,6 +7,7 @@ use layout::words::states;
 ghost use mathlib.Core.Path.{_≡_};
 ghost use mathlib.Core.Bool.{not, cond};
 ghost use Prim.Native.Nat.{_+_, _≤_, _<_};
+ghost use lib.ListN.{drop};
 ghost use lib.Dec.{eqb};
 ghost use Rattle.lists.specs.Tests.{every, count};
 ghost use Rattle.model.specs.State.{Reachable};
@@ -46,13 +47,13 @@ pub fn retired_by(nodes: &[u32], m: u32, c: NodeId, p: ProcessId) -> bool
         == layout::pair(states::RETIRED, p.0)
 }
 
-// How many Retired nodes p has.
-pub fn retired_count(nodes: &[u32], m: u32, p: ProcessId) -> u32
-    requires { ⌜ Part m (now nodes) ⌝ }
-    ensures { λ r. ⌜ r ≡ count (retiredBy (p .0)) (nodesIn m (now (nodes .entry))) ⌝ }
+// How many Retired nodes p has, from node `from` on.
+pub fn retired_count(nodes: &[u32], m: u32, p: ProcessId, from: u32) -> u32
+    requires { ⌜ Part m (now nodes) × (from ≤ m) ⌝ }
+    ensures { λ r. ⌜ r ≡ count (retiredBy (p .0)) (drop from (nodesIn m (now (nodes .entry)))) ⌝ }
 {
     let mut retired: u32 = 0;
-    let mut i: u32 = 0;
+    let mut i: u32 = from;
     while i < m {
         retired += one_if(retired_by(nodes, m, NodeId(i), p));
         i += 1;

@@ -4,6 +4,7 @@ pub mod counts;
 pub mod fits;
 pub mod handing;
 pub mod pass;
+pub mod portions;
 pub mod sweeps;
 
 use layout::Node;

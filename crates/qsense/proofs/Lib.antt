@@ -2,9 +2,11 @@ pub mod ModelOnWords
 pub mod Made
 pub mod AtTheEdge
 pub mod WhyAtTheEdge
+pub mod PortionsAtTheEdge
 pub mod Demand3OnWords
 pub mod RefusedForStores
 pub mod LatenessOnWords
+pub mod PortionsOnWords
 pub mod Theorems
 pub mod Excluded
 pub mod Checked

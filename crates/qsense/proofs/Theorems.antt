@@ -35,9 +35,13 @@ use Rattle.trace.specs.Trace.{paramsOf, questioned}
 use Rattle.trace.specs.Values.{openedValue, refusalOf}
 use Rattle.trace.specs.declared.Opened.{Opened}
 use Rattle.trace.specs.declared.Opened.the-variants.{Found, TooLong, NoTrailer, OutOfRange}
-use Rattle.qsense.specs.Calls.{Reply, refusing, throughWords, makeWords, stepWords, reachableWords, whyWords, runWords}
+use Rattle.qsense.specs.Calls.{Reply, refusing, throughWords, makeWords, stepWords, portionWords}
+use Rattle.qsense.specs.Calls.{reachableWords}
+use Rattle.qsense.specs.Calls.{whyWords, runWords}
 use Rattle.qsense.specs.Demands.{short, Refuses, Declines, Tells, Demand1, ToldExactly, WhyIsExactWords}
 use Rattle.qsense.specs.Demands.{Demand2, RemoveTakenBackWords, FreedAreCountedWords, RefusedForStores}
+use Rattle.qsense.specs.Demands.{PortionIsStepWords, PortionIsExactWords, PortionsAreScanWords}
+use Rattle.qsense.specs.Demands.{PortionsEndWords}
 use Rattle.qsense.specs.Demands.{LatenessIsDelayWords, Demand3Words}
 use Rattle.qsense.specs.Demands.{acceptedIn, outcomeOf, FollowsWords}
 use Rattle.qsense.proofs.ModelOnWords.{step-through, run-through, run-well-formed, counted, panel-through}
@@ -46,6 +50,7 @@ use Rattle.qsense.proofs.Made.{made}
 use Rattle.qsense.proofs.Demand3OnWords.{follows-words}
 use Rattle.qsense.proofs.RefusedForStores.{full, old}
 use Rattle.qsense.proofs.LatenessOnWords as Lateness
+use Rattle.qsense.proofs.PortionsOnWords as Portions
 
 -- ---- Demand 1
 
@@ -118,12 +123,13 @@ number-opened NoTrailer = refl
 number-opened OutOfRange = refl
 
 pub demand-1 : Demand1
-unfolding makeWords reachableWords whyWords stepWords traceOf frontOf questioned
+unfolding makeWords reachableWords whyWords stepWords portionWords traceOf frontOf questioned
 demand-1 = record {
   make = λ ws a. make-refuses ws (encode (fresh a)) (inRange a) (eqb (length ws) (wordCount a));
   reachable = λ ws. reachable-refuses ws (reachableCount (decode ws)) (wellFormed ws);
   why = λ ws c. why-tells (why (decode ws) c) (wellFormed ws) (nodeInRange (decode ws) c);
   step = λ ws s. step-refuses ws s (wellFormed ws) refl;
+  portion = λ ws p a l. Portions.portion-refuses ws p a l (wellFormed ws) refl;
   trace = λ bs. trace-declines (traceAt bs) (short bs) (trailerRight bs) (inRange (paramsOf bs));
   opened = λ bs o e. number-opened o ∙ ap numberIn e
       ∙ number-asked (frontAt bs) (short bs) (trailerRight bs) (inRange (paramsOf bs));
@@ -194,6 +200,20 @@ why-is-exact ws c =
     (λ _. Model.why-is-exact (decode ws) c (well-formed-sound ws e .domain))
     (λ _. tt))
     (λ _. tt)
+
+-- ---- a scan in portions
+
+pub portion-is-step : PortionIsStepWords
+portion-is-step = Portions.portion-is-step
+
+pub portion-is-exact : PortionIsExactWords
+portion-is-exact = Portions.portion-is-exact
+
+pub portions-are-scan : PortionsAreScanWords
+portions-are-scan = Portions.portions-are-scan
+
+pub portions-end : PortionsEndWords
+portions-end = Portions.portions-end
 
 -- ---- E is nothing but a longer T
 

@@ -6,7 +6,7 @@ use lib.ListN.{length}
 use lib.Dec.{eqb}
 use Rattle.model.specs.Params.{Params, wordCount}
 use Rattle.model.specs.State.{Step}
-use Rattle.model.specs.Machine.{Outcome, step, fresh}
+use Rattle.model.specs.Machine.{Outcome, PortionAnswer, step, portioned, fresh}
 use Rattle.model.specs.Why.{Explained, Refused, explained}
 use Rattle.model.specs.Claims.{reachableCount}
 use Rattle.layout.specs.Encode.{encode, decode}
@@ -38,6 +38,29 @@ throughWords o = record { refusal = o .refusal; value = o .value; words = encode
 
 unfoldable pub stepWords : List ℕ → Step → Reply
 stepWords ws s = cond (wellFormed ws) (throughWords (step (decode ws) s)) (refusing 3 ws)
+
+-- ---- a portion of a scan, as a call apart from the step: 3 unless the words are well formed, else the model's
+
+-- its answer, and the words after it
+pub record PortionReply : Type 0 where
+  pub refusal : ℕ
+  pub freed : ℕ
+  pub examined : ℕ
+  pub next : ℕ
+  pub left : ℕ
+  pub words : List ℕ
+
+-- refused: every other number 0, the same words
+abbrev pub declining : ℕ → List ℕ → PortionReply
+declining n ws = record { refusal = n; freed = 0; examined = 0; next = 0; left = 0; words = ws }
+
+abbrev pub portionThrough : PortionAnswer → PortionReply
+portionThrough x =
+    record { refusal = x .refusal; freed = x .freed; examined = x .examined; next = x .next; left = x .left; words = encode (x .after) }
+
+-- by process p, from node a, with limit l
+unfoldable pub portionWords : List ℕ → ℕ → ℕ → ℕ → PortionReply
+portionWords ws p a l = cond (wellFormed ws) (portionThrough (portioned (decode ws) p a l)) (declining 3 ws)
 
 -- ---- the reachable count (the paper's panel), a call apart from the steps: 3 or the count
 

@@ -1,34 +1,37 @@
 -- The user's demands, of the calls on words. The run starts from what `make` leaves on any slice that it accepts; each step has five
 -- arbitrary numbers and gets the words as the last one left them. Theorems: proofs/Theorems.antt. Assumes nothing.
-use Prim.Native.Nat.{ℕ, _+_, _≤_}
-use mathlib.Core.Bool.{Bool, true, false}
+use Prim.Native.Nat.{ℕ, _+_, _<_, _≤_}
+use mathlib.Core.Bool.{Bool, true, false, cond}
 use mathlib.Core.List.{List, [], _∷_}
 use mathlib.Core.Path.{_≡_}
 use mathlib.Core.Logic.{_≢_}
 use lib.ListN.{length, set}
 use lib.Dec.{leb, eqb}
-use Rattle.lists.specs.Tests.{every}
+use Rattle.lists.specs.Tests.{every, All}
 use Rattle.model.specs.Params.{Params, mostTicks, delay, bufferSize, wordCount}
-use Rattle.model.specs.State.{Domain, Step}
+use Rattle.model.specs.State.{Domain, Step, processOf}
 use Rattle.model.specs.Kinds.{kindOf}
 use Rattle.model.specs.Hazards.{here, young}
 use Rattle.model.specs.Questions.{Question, ask, firstNo, nodeInRange, questions}
 use Rattle.model.specs.Why.{Why, Explained, Refused, Told}
-use Rattle.model.specs.Machine.{Outcome}
+use Rattle.model.specs.Retire.{scan}
+use Rattle.model.specs.Portion.{Scanned, limitInRange}
+use Rattle.model.specs.Machine.{Outcome, portionStep}
 use Rattle.model.specs.Reference.{Reference, initial, freeEach}
 use Rattle.model.specs.Claims.{raises, lowers, acceptedAs, TakenBack, turnedFree, freedCount, Matches, Bounded}
 use Rattle.model.specs.Claims.{History, noHistory, recorded}
-use Rattle.model.specs.Claims.{led, Exact}
+use Rattle.model.specs.Claims.{led, Exact, ExactPortion}
 use Rattle.layout.specs.Shape.{word}
 use Rattle.layout.specs.Codecs.{visibilityWord, latenessWord}
-use Rattle.layout.specs.Encode.{decode, paramsIn}
+use Rattle.layout.specs.Encode.{encode, decode, paramsIn}
 use Rattle.layout.specs.Words.{wellFormed}
 use Rattle.layout.specs.Ranges.{inRange}
 use Rattle.trace.specs.Widths.{mostBytes}
 use Rattle.trace.specs.Trace.{Reading, refused, given, trailerRight, paramsOf, frontOf, traceOf}
 use Rattle.trace.specs.Values.{openedValue, refusalOf}
 use Rattle.trace.specs.declared.Opened.{Opened}
-use Rattle.qsense.specs.Calls.{Reply, refusing, makeWords, stepWords, reachableWords, whyWords, runWords}
+use Rattle.qsense.specs.Calls.{Reply, PortionReply, refusing, declining, makeWords, stepWords, portionWords}
+use Rattle.qsense.specs.Calls.{reachableWords, whyWords, runWords}
 use Rattle.qsense.specs.Numbers.{numbersOf}
 
 -- ---- Demand 1: the number of the first question with the answer no, in the paper's order; value 0, the same words
@@ -58,6 +61,11 @@ pub record Refuses (qs : List Question) (ws : List ℕ) (r : Reply) : Type 0 whe
   pub number : r .refusal ≡ firstNo qs
   pub unchanged : firstNo qs ≢ 0 → r ≡ refusing (firstNo qs) ws
 
+-- the same of a portion, which has more numbers
+pub record RefusesPortion (qs : List Question) (ws : List ℕ) (r : PortionReply) : Type 0 where
+  pub number : r .refusal ≡ firstNo qs
+  pub unchanged : firstNo qs ≢ 0 → r ≡ declining (firstNo qs) ws
+
 -- the reading of a trace of which qs were asked: it is refused, with nothing read, or given
 pub record Declines {A : Type 0} (qs : List Question) (r : Reading A) : Type 0 where
   pub refuses : firstNo qs ≢ 0 → r ≡ refused (firstNo qs)
@@ -73,6 +81,8 @@ pub record Demand1 : Type 0 where
   pub reachable : (ws : List ℕ) → Refuses (reachableQuestions ws) ws (reachableWords ws)
   pub why : (ws : List ℕ) (c : ℕ) → Tells (whyQuestions ws c) (whyWords ws c)
   pub step : (ws : List ℕ) (s : Step) → Refuses (stepQuestions ws s) ws (stepWords ws s)
+  -- the step's questions
+  pub portion : (ws : List ℕ) (p a l : ℕ) → RefusesPortion (stepQuestions ws (portionStep p a l)) ws (portionWords ws p a l)
   pub trace : (bs : List ℕ) → Declines (traceQuestions bs) (traceOf bs)
   -- the number that the code answers for what comes of opening one
   pub opened : (bs : List ℕ) (o : Opened) → openedValue o ≡ frontOf bs → refusalOf o ≡ firstNo (traceQuestions bs)
@@ -124,6 +134,56 @@ ToldExactly d c (Told w) = Exact d c w
 
 abbrev pub WhyIsExactWords : Type 0
 WhyIsExactWords = (ws : List ℕ) (c : ℕ) → ToldExactly (decode ws) c (whyWords ws c)
+
+-- ---- a scan in portions, on any words
+
+-- the call and the step of kind 17 are one, whatever the step's hazard is: the same refusal, as many nodes freed, the same words
+abbrev pub portionAt : ℕ → ℕ → ℕ → ℕ → Step
+portionAt p h a l = record { kind = 17; process = p; hazard = h; node = a; guest = l }
+
+abbrev pub stepReply : PortionReply → Reply
+stepReply r = record { refusal = r .refusal; value = r .freed; words = r .words }
+
+abbrev pub PortionIsStepWords : Type 0
+PortionIsStepWords = (ws : List ℕ) (p h a l : ℕ) → stepWords ws (portionAt p h a l) ≡ stepReply (portionWords ws p a l)
+
+-- what an accepted one answers is exact
+abbrev pub scannedOf : PortionReply → Scanned
+scannedOf r = record { freed = r .freed; examined = r .examined; next = r .next; left = r .left; after = decode (r .words) }
+
+abbrev pub PortionIsExactWords : Type 0
+PortionIsExactWords =
+    (ws : List ℕ) (p a l : ℕ) → portionWords ws p a l .refusal ≡ 0 → ExactPortion (decode ws) p a l (scannedOf (portionWords ws p a l))
+
+-- a host's loop: calls for process p with these limits, the first from node a and each from where the one before ended, until one is refused;
+-- the nodes freed in all, the node to go on from, the words then
+pub record PortionsReply : Type 0 where
+  pub freed : ℕ
+  pub next : ℕ
+  pub words : List ℕ
+
+abbrev pub freedBefore : ℕ → PortionsReply → PortionsReply
+freedBefore n r = record { freed = n + r .freed; next = r .next; words = r .words }
+
+abbrev pub portionsWords : List ℕ → ℕ → ℕ → List ℕ → PortionsReply
+portionsWords ws p a [] = record { freed = 0; next = a; words = ws }
+portionsWords ws p a (l ∷ ls) =
+    cond (eqb (portionWords ws p a l .refusal) 0)
+    (freedBefore (portionWords ws p a l .freed) (portionsWords (portionWords ws p a l .words) p (portionWords ws p a l .next) ls))
+    (record { freed = 0; next = a; words = ws })
+
+-- where it comes from node 0 to the end, it has freed what one scan frees and leaves the words of one scan
+abbrev pub PortionsAreScanWords : Type 0
+PortionsAreScanWords =
+    (ws : List ℕ) (p : ℕ) (ls : List ℕ) → wellFormed ws ≡ true → portionsWords ws p 0 ls .next ≡ decode ws .params .nodes
+    → (portionsWords ws p 0 ls .freed ≡ scan (decode ws) p .value) × (portionsWords ws p 0 ls .words ≡ encode (scan (decode ws) p .after))
+
+-- and for a process that is there it does, with as many limits in range as there are nodes
+abbrev pub PortionsEndWords : Type 0
+PortionsEndWords =
+    (ws : List ℕ) (p : ℕ) (ls : List ℕ) → wellFormed ws ≡ true → p < decode ws .params .processes → processOf (decode ws) p .present ≡ 1
+    → All (λ l. limitInRange l ≡ true) ls → decode ws .params .nodes ≤ length ls
+    → portionsWords ws p 0 ls .next ≡ decode ws .params .nodes
 
 -- ---- E is nothing but a longer T, on words that hold a domain
 

@@ -6,3 +6,4 @@ pub mod Values
 pub mod Runs
 pub mod Numbers
 pub mod WhyCases
+pub mod PortionCases

@@ -1,4 +1,4 @@
--- The reply that an answer of the code and the words after the call make, and what a step on checked words promises. Assumes nothing.
+-- The reply that an answer of the code and the words after the call make, of a portion too, and what a step on checked words promises. Assumes nothing.
 use Prim.Native.Nat.{ℕ}
 use mathlib.Core.Bool.{Bool}
 use mathlib.Core.List.{List}
@@ -6,13 +6,18 @@ use mathlib.Core.Path.{_≡_}
 use Rattle.model.specs.State.{Step}
 use Rattle.layout.specs.Words.{wellFormed}
 use Rattle.layout.specs.Pairs.{lowIn, highIn}
-use Rattle.qsense.specs.Calls.{Reply, stepWords}
+use Rattle.qsense.specs.Calls.{Reply, PortionReply, stepWords}
 use Rattle.qsense.specs.declared.Answer.{Answer}
+use Rattle.qsense.specs.declared.Portioned.{Portioned}
 
 abbrev pub replyOf : Answer → List ℕ → Reply
 replyOf r ws = record { refusal = r .refusal; value = r .value; words = ws }
 
--- the same of an answer that is one number, the refusal its low word and the value its high one
+abbrev pub portionReplyOf : Portioned → List ℕ → PortionReply
+portionReplyOf r ws =
+    record { refusal = r .refusal; freed = r .freed; examined = r .examined; next = r .next; left = r .left; words = ws }
+
+-- the reply of an answer that is one number, the refusal its low word and the value its high one
 abbrev pub pairReply : ℕ → List ℕ → Reply
 pairReply n ws = record { refusal = lowIn n; value = highIn n; words = ws }
 

@@ -1,5 +1,5 @@
-// The calls: make a domain, how many words it takes, a step, a list of steps, the reachable count, and why a node is still waiting. Each
-// takes any words and any numbers.
+// The calls: make a domain, how many words it takes, a step, a list of steps, a portion of a scan, the reachable count, and why a node is
+// still waiting. Each takes any words and any numbers.
 mod runs;
 pub mod two_passes;
 
@@ -13,16 +13,26 @@ use waiting::Explained;
 ghost use mathlib.Core.Path.{_≡_};
 ghost use Rattle.layout.specs.Values.{paramsValue};
 ghost use Rattle.layout.specs.Ranges.{lengthFor};
-ghost use Rattle.qsense.specs.Calls.{makeWords, reachableWords, stepWords, whyWords};
+ghost use Rattle.qsense.specs.Calls.{makeWords, reachableWords, portionWords, stepWords, whyWords};
 ghost use Rattle.domain.specs.Effects.{given};
 ghost use Rattle.waiting.specs.Values.{explainedValue};
-ghost use Rattle.qsense.specs.Values.{replyOf};
+ghost use Rattle.qsense.specs.Values.{replyOf, portionReplyOf};
 ghost use Rattle.qsense.specs.Runs.{ranOf, runInto};
 
 // refusal: the number of the first question with the answer no, 0 for accepted.
 pub struct Answer {
     pub refusal: u32,
     pub value: u32,
+}
+
+// refusal: as of a step; where it is not 0, every other number is 0. freed: nodes freed. examined: the Retired nodes of the process that were
+// met. next: the node to go on from. left: its Retired nodes from there on.
+pub struct Portioned {
+    pub refusal: u32,
+    pub freed: u32,
+    pub examined: u32,
+    pub next: u32,
+    pub left: u32,
 }
 
 // Makes a fresh domain of the words. Refused with 1 unless every parameter is in its range, then with 2 unless the words are exactly as
@@ -81,8 +91,33 @@ pub fn why(words: &[u32], node: NodeId) -> Explained
     waiting::explain(words, node)
 }
 
+// A portion of a scan (kind 17) by a process, from a node on, that examines at most so many of its Retired nodes. Refused with 3 unless the words
+// are those of a well-formed domain, then as the step is; refused, nothing is written.
+pub fn portion(words: &mut [u32], process: ProcessId, start: NodeId, limit: u32) -> Portioned
+    ensures { λ r. ⌜ portionReplyOf r (now (words .exit)) ≡ portionWords (now (words .entry)) (process .0) (start .0) limit ⌝ }
+{
+    let good = wellformed::well_formed(words);
+    if !good {
+        return Portioned {
+            refusal: wellformed::MALFORMED as u32,
+            freed: 0,
+            examined: 0,
+            next: 0,
+            left: 0,
+        };
+    }
+    let x = steps::portion::portion(words, process, start, limit);
+    Portioned {
+        refusal: x.refusal,
+        freed: x.freed,
+        examined: x.examined,
+        next: x.next,
+        left: x.left,
+    }
+}
+
 // One step. Refused with 3 unless the words are those of a well-formed domain, then with the number of the first of the questions 4 to
-// 17 whose answer is no; refused, the value is 0 and nothing is written.
+// 23 whose answer is no; refused, the value is 0 and nothing is written.
 pub fn step(
     words: &mut [u32],
     kind: u32,

@@ -11,11 +11,11 @@ ghost use Rattle.model.specs.Params.{paramsOf};
 ghost use Rattle.layout.specs.Ranges.{lengthFor};
 ghost use Rattle.model.specs.Why.{Told, NotAsked};
 ghost use Rattle.waiting.specs.Values.{reasonValue, whyValue};
-ghost use Rattle.qsense.specs.Calls.{makeWords, stepWords, reachableWords, whyWords};
+ghost use Rattle.qsense.specs.Calls.{makeWords, stepWords, portionWords, reachableWords, whyWords};
 ghost use Rattle.qsense.specs.Numbers.{told, numbersOf};
 ghost use Rattle.qsense.specs.Runs.{ranOf, runInto};
 ghost use Rattle.domain.specs.Effects.{given};
-ghost use Rattle.qsense_c.specs.Values.{replyOf, numbersIn};
+ghost use Rattle.qsense_c.specs.Values.{replyOf, portionReplyOf, numbersIn};
 
 #[repr(C)]
 pub struct Answer {
@@ -96,6 +96,40 @@ pub extern "C" fn qsense_run(words: &mut [u32], steps: &[u32], answers: &mut [u3
 {
     qsense::run(words, steps, answers)
 }
+
+// ---- a portion of a scan
+
+// Every number is 0 where it is refused, but for the refusal.
+#[repr(C)]
+pub struct Portioned {
+    pub refusal: u32,
+    pub freed: u32,
+    pub examined: u32,
+    pub next: u32,
+    pub left: u32,
+}
+
+// At most so many Retired nodes of a process, from one on, examined.
+#[no_mangle]
+pub extern "C" fn qsense_portion(
+    words: &mut [u32],
+    process: u32,
+    start: u32,
+    limit: u32,
+) -> Portioned
+    ensures { λ r. ⌜ portionReplyOf r (now (words .exit)) ≡ portionWords (now (words .entry)) process start limit ⌝ }
+{
+    let x = qsense::portion(words, ProcessId(process), NodeId(start), limit);
+    Portioned {
+        refusal: x.refusal,
+        freed: x.freed,
+        examined: x.examined,
+        next: x.next,
+        left: x.left,
+    }
+}
+
+// ---- the reachable count
 
 // How many nodes are Reachable.
 #[no_mangle]

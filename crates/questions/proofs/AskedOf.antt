@@ -11,9 +11,13 @@ use Rattle.model.specs.Kinds.{Kind, kindOf, numberOf, is, Unknown, Protect, Cle
 use Rattle.model.specs.Questions.{presentFor}
 use Rattle.model.proofs.KindNumbers.{same-kind}
 
--- a range: p below n where the row's column, m, means w
+-- where the row's column, m, means w
+pub by-column : (w : ℕ) (b : Bool) {m m' : ℕ} → m ≡ m' → (not (eqb m w) || b) ≡ implies (eqb m' w) b
+by-column w b {m} e = or-implies (eqb m w) b ∙ (λ t. implies (eqb (e t) w) b)
+
+-- a range: p below n, where it does
 pub in-range : (w p : ℕ) {m m' n n' : ℕ} → m ≡ m' → n ≡ n' → (not (eqb m w) || ltb p n) ≡ implies (eqb m' w) (ltb p n')
-in-range w p {m} {m'} {n} e q = or-implies (eqb m w) (ltb p n) ∙ (λ t. implies (eqb (e t) w) (ltb p (q t)))
+in-range w p {m' = m'} {n} e q = by-column w (ltb p n) e ∙ (λ t. implies (eqb m' w) (ltb p (q t)))
 
 pub not-asked : (x y : Bool) → x ≡ false → true ≡ implies x y
 not-asked x y e = rw e

@@ -15,13 +15,17 @@ abbrev pub answerTo : ℕ → List Question → Bool
 answerTo n [] = true
 answerTo n (q ∷ qs) = cond (eqb (q .number) n) (q .yes') (answerTo n qs)
 
--- the questions of a step of this kind, process, hazard and node
-abbrev pub asked : ℕ → List ℕ → ℕ → ℕ → ℕ → List Question
-asked kind ws p h c = questions (kindOf kind) (decode ws) (given kind p h c 0)
+-- the questions of a step of this kind, process, hazard, node and guest
+abbrev pub asked : ℕ → List ℕ → ℕ → ℕ → ℕ → ℕ → List Question
+asked kind ws p h c guest = questions (kindOf kind) (decode ws) (given kind p h c guest)
 
 -- how many come first: 4, 5 and 20 to 22, which ask who takes the step
 abbrev pub askedFirst : ℕ
 askedFirst = 5
+
+-- and with those that the table decides: 6, 7, 23, 8 and 9
+abbrev pub askedOfAll : ℕ
+askedOfAll = 10
 
 -- hazard h of process p, the node assigned to that, and node c; past the last, zeros
 abbrev pub hazardIn : List ℕ → ℕ → ℕ → Hazard

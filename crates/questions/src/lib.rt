@@ -1,4 +1,4 @@
-// The questions before a step, numbers 4 to 17 and 20 to 22 in the papers' order: the number of the first with the answer no, 0 where there
+// The questions before a step, numbers 4 to 17 and 20 to 23 in the papers' order: the number of the first with the answer no, 0 where there
 // is none.
 // A question that a kind is not asked has the answer yes and reads nothing, so that with the kind as a literal only its own are left.
 pub mod read;
@@ -8,6 +8,7 @@ use layout::NodeId;
 use layout::ProcessId;
 use layout::words::most;
 use layout::words::states;
+ghost use mathlib.Core.List.{[]};
 ghost use mathlib.Core.Path.{_≡_};
 ghost use Rattle.model.specs.Kinds.{kindOf};
 ghost use lib.ListN.{drop};
@@ -15,7 +16,7 @@ ghost use Rattle.model.specs.Questions.{firstNo, refusalOf};
 ghost use Rattle.layout.specs.Encode.{decode};
 ghost use Rattle.layout.specs.Sound.{Sound};
 ghost use Rattle.domain.specs.Effects.{given};
-ghost use Rattle.questions.specs.Answers.{answerTo, asked, askedFirst};
+ghost use Rattle.questions.specs.Answers.{answerTo, asked, askedFirst, askedOfAll};
 
 // The number of question 7, which is asked of a node that no step names, too.
 pub const NO_SUCH_NODE: u32 = 7;
@@ -23,7 +24,7 @@ pub const NO_SUCH_NODE: u32 = 7;
 // 5: is the process one of the domain's?
 fn process_in_range(words: &[u32], kind: u32, p: ProcessId) -> bool
     requires { ⌜ Sound (now words) ⌝ }
-    ensures { λ r. ⌜ r ≡ answerTo 5 (asked kind (now (words .entry)) (p .0) 0 0) ⌝ }
+    ensures { λ r. ⌜ r ≡ answerTo 5 (asked kind (now (words .entry)) (p .0) 0 0 0) ⌝ }
 {
     let row = kinds::row_of(kind);
     (row.0 != kinds::PROCESS) | (p.0 < domain::bounds(words).processes)
@@ -32,7 +33,7 @@ fn process_in_range(words: &[u32], kind: u32, p: ProcessId) -> bool
 // 20: is the process present, or absent where it is to join?
 fn present_or_joins(words: &[u32], kind: u32, p: ProcessId) -> bool
     requires { ⌜ Sound (now words) ⌝ }
-    ensures { λ r. ⌜ r ≡ answerTo 20 (asked kind (now (words .entry)) (p .0) 0 0) ⌝ }
+    ensures { λ r. ⌜ r ≡ answerTo 20 (asked kind (now (words .entry)) (p .0) 0 0 0) ⌝ }
 {
     let row = kinds::row_of(kind);
     if row.0 != kinds::PROCESS {
@@ -49,7 +50,7 @@ fn present_or_joins(words: &[u32], kind: u32, p: ProcessId) -> bool
 // 21: has the process no hazard assigned, no store pending and no node under way?
 fn unburdened(words: &[u32], kind: u32, p: ProcessId) -> bool
     requires { ⌜ Sound (now words) ⌝ }
-    ensures { λ r. ⌜ r ≡ answerTo 21 (asked kind (now (words .entry)) (p .0) 0 0) ⌝ }
+    ensures { λ r. ⌜ r ≡ answerTo 21 (asked kind (now (words .entry)) (p .0) 0 0 0) ⌝ }
 {
     if kind != kinds::LEAVE {
         return true;
@@ -61,7 +62,7 @@ fn unburdened(words: &[u32], kind: u32, p: ProcessId) -> bool
 // 22: is the second process, which the node field names, another one of the domain's and present?
 fn takes_over(words: &[u32], kind: u32, p: ProcessId, c: NodeId) -> bool
     requires { ⌜ Sound (now words) ⌝ }
-    ensures { λ r. ⌜ r ≡ answerTo 22 (asked kind (now (words .entry)) (p .0) 0 (c .0)) ⌝ }
+    ensures { λ r. ⌜ r ≡ answerTo 22 (asked kind (now (words .entry)) (p .0) 0 (c .0) 0) ⌝ }
 {
     if kind != kinds::LEAVE {
         return true;
@@ -73,7 +74,7 @@ fn takes_over(words: &[u32], kind: u32, p: ProcessId, c: NodeId) -> bool
 // 6: is the hazard one of a process's?
 fn hazard_in_range(words: &[u32], kind: u32, h: HazardId) -> bool
     requires { ⌜ Sound (now words) ⌝ }
-    ensures { λ r. ⌜ r ≡ answerTo 6 (asked kind (now (words .entry)) 0 (h .0) 0) ⌝ }
+    ensures { λ r. ⌜ r ≡ answerTo 6 (asked kind (now (words .entry)) 0 (h .0) 0 0) ⌝ }
 {
     let row = kinds::row_of(kind);
     (row.1 != kinds::HAZARD) | (h.0 < domain::bounds(words).hazards)
@@ -82,16 +83,24 @@ fn hazard_in_range(words: &[u32], kind: u32, h: HazardId) -> bool
 // 7: is the node one of the domain's?
 fn node_in_range(words: &[u32], kind: u32, c: NodeId) -> bool
     requires { ⌜ Sound (now words) ⌝ }
-    ensures { λ r. ⌜ r ≡ answerTo 7 (asked kind (now (words .entry)) 0 0 (c .0)) ⌝ }
+    ensures { λ r. ⌜ r ≡ answerTo 7 (asked kind (now (words .entry)) 0 0 (c .0) 0) ⌝ }
 {
     let row = kinds::row_of(kind);
     (row.2 != kinds::NODE) | (c.0 < domain::bounds(words).nodes)
 }
 
+// 23: is the limit one that a portion may have?
+fn limit_in_range(kind: u32, limit: u32) -> bool
+    ensures { λ r. ⌜ r ≡ answerTo 23 (asked kind [] 0 0 0 limit) ⌝ }
+{
+    let row = kinds::row_of(kind);
+    (row.3 != kinds::LIMIT) | ((1 <= limit) & (limit <= most::EXAMINED))
+}
+
 // 8: is the node in the state that the kind needs?
 fn state_met(words: &[u32], kind: u32, c: NodeId) -> bool
     requires { ⌜ Sound (now words) ⌝ }
-    ensures { λ r. ⌜ r ≡ answerTo 8 (asked kind (now (words .entry)) 0 0 (c .0)) ⌝ }
+    ensures { λ r. ⌜ r ≡ answerTo 8 (asked kind (now (words .entry)) 0 0 (c .0) 0) ⌝ }
 {
     let row = kinds::row_of(kind);
     if row.4 == kinds::ANY {
@@ -103,7 +112,7 @@ fn state_met(words: &[u32], kind: u32, c: NodeId) -> bool
 // 9: does the process own the node?
 fn owned(words: &[u32], kind: u32, p: ProcessId, c: NodeId) -> bool
     requires { ⌜ Sound (now words) ⌝ }
-    ensures { λ r. ⌜ r ≡ answerTo 9 (asked kind (now (words .entry)) (p .0) 0 (c .0)) ⌝ }
+    ensures { λ r. ⌜ r ≡ answerTo 9 (asked kind (now (words .entry)) (p .0) 0 (c .0) 0) ⌝ }
 {
     let row = kinds::row_of(kind);
     if !row.5 {
@@ -115,7 +124,7 @@ fn owned(words: &[u32], kind: u32, p: ProcessId, c: NodeId) -> bool
 // 10: has the hazard a node assigned?
 fn assigned(words: &[u32], kind: u32, p: ProcessId, h: HazardId) -> bool
     requires { ⌜ Sound (now words) ⌝ }
-    ensures { λ r. ⌜ r ≡ answerTo 10 (asked kind (now (words .entry)) (p .0) (h .0) 0) ⌝ }
+    ensures { λ r. ⌜ r ≡ answerTo 10 (asked kind (now (words .entry)) (p .0) (h .0) 0 0) ⌝ }
 {
     if kind != kinds::CHECK {
         return true;
@@ -126,7 +135,7 @@ fn assigned(words: &[u32], kind: u32, p: ProcessId, h: HazardId) -> bool
 // 11: is that node Reachable?
 fn reachable(words: &[u32], kind: u32, p: ProcessId, h: HazardId) -> bool
     requires { ⌜ Sound (now words) ⌝ }
-    ensures { λ r. ⌜ r ≡ answerTo 11 (asked kind (now (words .entry)) (p .0) (h .0) 0) ⌝ }
+    ensures { λ r. ⌜ r ≡ answerTo 11 (asked kind (now (words .entry)) (p .0) (h .0) 0 0) ⌝ }
 {
     if kind != kinds::CHECK {
         return true;
@@ -137,7 +146,7 @@ fn reachable(words: &[u32], kind: u32, p: ProcessId, h: HazardId) -> bool
 // 12: is the hazard validated?
 fn validated(words: &[u32], kind: u32, p: ProcessId, h: HazardId) -> bool
     requires { ⌜ Sound (now words) ⌝ }
-    ensures { λ r. ⌜ r ≡ answerTo 12 (asked kind (now (words .entry)) (p .0) (h .0) 0) ⌝ }
+    ensures { λ r. ⌜ r ≡ answerTo 12 (asked kind (now (words .entry)) (p .0) (h .0) 0 0) ⌝ }
 {
     if kind != kinds::USE {
         return true;
@@ -148,7 +157,7 @@ fn validated(words: &[u32], kind: u32, p: ProcessId, h: HazardId) -> bool
 // 13: is there room in the buffer?
 fn room(words: &[u32], kind: u32, p: ProcessId) -> bool
     requires { ⌜ Sound (now words) ⌝ }
-    ensures { λ r. ⌜ r ≡ answerTo 13 (asked kind (now (words .entry)) (p .0) 0 0) ⌝ }
+    ensures { λ r. ⌜ r ≡ answerTo 13 (asked kind (now (words .entry)) (p .0) 0 0 0) ⌝ }
 {
     if (kind != kinds::PROTECT) & (kind != kinds::CLEAR) {
         return true;
@@ -159,7 +168,7 @@ fn room(words: &[u32], kind: u32, p: ProcessId) -> bool
 // 14: is a store pending?
 fn store_pending(words: &[u32], kind: u32, p: ProcessId) -> bool
     requires { ⌜ Sound (now words) ⌝ }
-    ensures { λ r. ⌜ r ≡ answerTo 14 (asked kind (now (words .entry)) (p .0) 0 0) ⌝ }
+    ensures { λ r. ⌜ r ≡ answerTo 14 (asked kind (now (words .entry)) (p .0) 0 0 0) ⌝ }
 {
     if kind != kinds::DRAIN {
         return true;
@@ -170,7 +179,7 @@ fn store_pending(words: &[u32], kind: u32, p: ProcessId) -> bool
 // 15: can the clock go on?
 fn clock_goes_on(words: &[u32], kind: u32) -> bool
     requires { ⌜ Sound (now words) ⌝ }
-    ensures { λ r. ⌜ r ≡ answerTo 15 (asked kind (now (words .entry)) 0 0 0) ⌝ }
+    ensures { λ r. ⌜ r ≡ answerTo 15 (asked kind (now (words .entry)) 0 0 0 0) ⌝ }
 {
     if kind != kinds::TICK {
         return true;
@@ -181,7 +190,7 @@ fn clock_goes_on(words: &[u32], kind: u32) -> bool
 // 16: is every pending store younger than the delay?
 fn stores_young(words: &[u32], kind: u32) -> bool
     requires { ⌜ Sound (now words) ⌝ }
-    ensures { λ r. ⌜ r ≡ answerTo 16 (asked kind (now (words .entry)) 0 0 0) ⌝ }
+    ensures { λ r. ⌜ r ≡ answerTo 16 (asked kind (now (words .entry)) 0 0 0 0) ⌝ }
 {
     if kind != kinds::TICK {
         return true;
@@ -192,7 +201,7 @@ fn stores_young(words: &[u32], kind: u32) -> bool
 // 17: has no hazard of the process a node assigned?
 fn none_assigned(words: &[u32], kind: u32, p: ProcessId) -> bool
     requires { ⌜ Sound (now words) ⌝ }
-    ensures { λ r. ⌜ r ≡ answerTo 17 (asked kind (now (words .entry)) (p .0) 0 0) ⌝ }
+    ensures { λ r. ⌜ r ≡ answerTo 17 (asked kind (now (words .entry)) (p .0) 0 0 0) ⌝ }
 {
     if kind != kinds::MANAGE {
         return true;
@@ -200,21 +209,13 @@ fn none_assigned(words: &[u32], kind: u32, p: ProcessId) -> bool
     read::unassigned(words, p)
 }
 
-// The first no from question 6 on. A function of its own: as one list with the questions before, which ask who takes the step, it is too long
-// to be folded into each kind's arm of the dispatch.
-fn rest(words: &[u32], kind: u32, p: ProcessId, h: HazardId, c: NodeId) -> u32
+// The first no from question 10 on, which are each of one kind or two. The list is three functions: as one or two it is too long to be folded
+// into each kind's arm of the dispatch.
+fn rest(words: &[u32], kind: u32, p: ProcessId, h: HazardId) -> u32
     requires { ⌜ Sound (now words) ⌝ }
-    ensures { λ r. ⌜ r ≡ firstNo (drop askedFirst (asked kind (now (words .entry)) (p .0) (h .0) (c .0))) ⌝ }
+    ensures { λ r. ⌜ r ≡ firstNo (drop askedOfAll (asked kind (now (words .entry)) (p .0) (h .0) 0 0)) ⌝ }
 {
-    if !hazard_in_range(words, kind, h) {
-        6
-    } else if !node_in_range(words, kind, c) {
-        NO_SUCH_NODE
-    } else if !state_met(words, kind, c) {
-        8
-    } else if !owned(words, kind, p, c) {
-        9
-    } else if !assigned(words, kind, p, h) {
+    if !assigned(words, kind, p, h) {
         10
     } else if !reachable(words, kind, p, h) {
         11
@@ -235,6 +236,26 @@ fn rest(words: &[u32], kind: u32, p: ProcessId, h: HazardId, c: NodeId) -> u32
     }
 }
 
+// The first no from question 6 on: first what the step names, by the table.
+fn named(words: &[u32], kind: u32, p: ProcessId, h: HazardId, c: NodeId, guest: u32) -> u32
+    requires { ⌜ Sound (now words) ⌝ }
+    ensures { λ r. ⌜ r ≡ firstNo (drop askedFirst (asked kind (now (words .entry)) (p .0) (h .0) (c .0) guest)) ⌝ }
+{
+    if !hazard_in_range(words, kind, h) {
+        6
+    } else if !node_in_range(words, kind, c) {
+        NO_SUCH_NODE
+    } else if !limit_in_range(kind, guest) {
+        23
+    } else if !state_met(words, kind, c) {
+        8
+    } else if !owned(words, kind, p, c) {
+        9
+    } else {
+        rest(words, kind, p, h)
+    }
+}
+
 // The refusal of a step: the first question with the answer no.
 pub fn refusal(words: &[u32], kind: u32, p: ProcessId, h: HazardId, c: NodeId, guest: u32) -> u32
     requires { ⌜ Sound (now words) ⌝ }
@@ -251,6 +272,6 @@ pub fn refusal(words: &[u32], kind: u32, p: ProcessId, h: HazardId, c: NodeId, g
     } else if !takes_over(words, kind, p, c) {
         22
     } else {
-        rest(words, kind, p, h, c)
+        named(words, kind, p, h, c, guest)
     }
 }

@@ -1,5 +1,6 @@
 // Retire (kind 8): a node marked Retired, the switch to the fallback path, and the scan.
 mod marks;
+pub mod portion;
 pub mod scan;
 pub mod shown;
 
@@ -35,7 +36,7 @@ fn reclaim(words: &mut [u32], p: ProcessId) -> u32
     if domain::path(words) == paths::FALLBACK {
         return scan::scan(words, p, 0, a.nodes);
     }
-    if domain::retired_count(words, p) < a.fallback {
+    if domain::retired_count(words, p, 0) < a.fallback {
         return 0;
     }
     fall_back(words);

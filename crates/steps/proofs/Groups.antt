@@ -26,8 +26,8 @@ module _ {kind : ℕ} where
   pub none-below : kind < 1 → kindOf kind ≡ Unknown
   none-below h = let e : kind ≡ 0 = omega arith in ap kindOf e
 
-  pub none-beyond : 17 ≤ kind → kindOf kind ≡ Unknown
-  none-beyond h = unknown kind (omega arith)
+  pub none-beyond : 17 ≤ kind → kind ≢ 17 → kindOf kind ≡ Unknown
+  none-beyond h n17 = unknown kind (omega arith)
 
   -- what is left between the others
   pub on-attendance : 11 ≤ kind → kind < 17 → kind ≢ 12 → ((kind ≡ 11) ⊎ (kind ≡ 13) → ⊥) → kind ≢ 14 → OnAttendance kind

@@ -1,4 +1,5 @@
 pub mod OneNumber
+pub mod Portioning
 pub mod AsRead
 pub mod Groups
 pub mod Going

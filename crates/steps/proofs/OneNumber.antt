@@ -1,7 +1,7 @@
 -- A step on sound words, refused and accepted, its answer one number. Assumes nothing.
-use Prim.Native.Nat.{ℕ, _+_, _*_, _/_, _%_, _<_, _≤_}
+use Prim.Native.Nat.{ℕ, _+_, _*_, _/_, _%_, _<_}
 use mathlib.Core.List.{List}
-use mathlib.Core.Path.{_≡_, refl, sym, _∙_, ap, subst}
+use mathlib.Core.Path.{_≡_, refl, sym, _∙_}
 use mathlib.Core.Logic.{_≢_}
 use native.Mathlib.Omega.{arith}
 use borrow.Author.Tests.{ne-eqb}
@@ -15,13 +15,13 @@ use Rattle.layout.specs.Encode.{decode}
 use Rattle.layout.specs.Sound.{Sound}
 use Rattle.layout.proofs.Sound.{sound-at}
 use Rattle.domain.specs.Effects.{Does, given}
-use Rattle.steps.specs.Stepped.{Stepped, SteppedTo}
+use Rattle.steps.specs.Stepped.{SteppedTo}
 
 -- two words that are one number
-low-word : (r v n : ℕ) → n ≡ r + v * 4294967296 → r < 4294967296 → r ≡ n % 4294967296
+pub low-word : (r v n : ℕ) → n ≡ r + v * 4294967296 → r < 4294967296 → r ≡ n % 4294967296
 low-word r v n e h = let f : n ≡ v * 4294967296 + r = omega arith in rw f (sym (digits-mod v h))
 
-high-word : (r v n : ℕ) → n ≡ r + v * 4294967296 → r < 4294967296 → v ≡ n / 4294967296
+pub high-word : (r v n : ℕ) → n ≡ r + v * 4294967296 → r < 4294967296 → v ≡ n / 4294967296
 high-word r v n e h = let f : n ≡ v * 4294967296 + r = omega arith in rw f (sym (digits-div v h))
 
 -- a step of kind n, where r is its refusal

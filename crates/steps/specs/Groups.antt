@@ -23,3 +23,7 @@ OnDomain kind = (kind ≡ 11) ⊎ (kind ≡ 13)
 -- who is there: leave, join
 abbrev pub OnAttendance : ℕ → Type 0
 OnAttendance kind = Between 15 16 kind
+
+-- a process and a node to start from: portion
+abbrev pub OnPortion : ℕ → Type 0
+OnPortion kind = kind ≡ 17

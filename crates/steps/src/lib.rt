@@ -4,6 +4,7 @@
 mod attendance;
 mod domain_kinds;
 mod node_kinds;
+pub mod portion;
 mod process_kinds;
 
 use layout::HazardId;
@@ -11,7 +12,7 @@ use layout::NodeId;
 use layout::ProcessId;
 ghost use Rattle.layout.specs.Sound.{Sound};
 ghost use Rattle.steps.specs.Stepped.{outcome, Stepped, SteppedTo};
-ghost use Rattle.steps.specs.Groups.{OnNode, OnHazard, OnProcess, OnDomain, OnAttendance};
+ghost use Rattle.steps.specs.Groups.{OnNode, OnHazard, OnProcess, OnDomain, OnAttendance, OnPortion};
 
 // The refusal number, 0 for accepted, and the value.
 pub struct Answer {
@@ -211,6 +212,22 @@ fn attendance_step(
     }
 }
 
+// Kind 17.
+fn portion_step(
+    words: &mut [u32],
+    kind: u32,
+    p: ProcessId,
+    h: HazardId,
+    c: NodeId,
+    guest: u32,
+) -> usize
+    requires { ⌜ Sound (now words) × OnPortion kind ⌝ }
+    ensures { λ r. ⌜ SteppedTo (now (words .entry)) kind (p .0) (h .0) (c .0) guest r (now (words .exit)) ⌝ }
+{
+    let x = portion::portion(words, p, c, guest);
+    layout::pair(x.refusal, x.freed)
+}
+
 // A step on words known to be sound, which are sound again after it.
 pub fn take_step(
     words: &mut [u32],
@@ -229,6 +246,7 @@ pub fn take_step(
         9..=10 | 12 => process_step(words, kind, p, h, c, guest),
         11 | 13 => domain_step(words, kind, p, h, c, guest),
         15..=16 => attendance_step(words, kind, p, h, c, guest),
+        17 => portion_step(words, kind, p, h, c, guest),
         _ => 4,
     }
 }

@@ -2,15 +2,18 @@
 
 mod late;
 mod leaving;
+mod portions;
 mod why;
 
 use crate::layout::BUFFER;
 use crate::model::domain::{Domain, Node, Path};
 use crate::model::questions::{LAST_QUESTION, QUESTIONS};
+use crate::portion::{Portion, PortionAnswer};
 use crate::step::{Answer, Field, Kind, Step};
 use crate::why::Why;
 use late::Late;
 use leaving::Leaving;
+use portions::Portions;
 use why::Waiting;
 
 #[derive(Default)]
@@ -33,6 +36,7 @@ pub struct Coverage {
     leaving: Leaving,
     late: Late,
     waiting: Waiting,
+    portions: Portions,
     // of the domain before the step in hand
     path: Option<Path>,
     pending: usize,
@@ -101,6 +105,11 @@ impl Coverage {
         self.waiting.told(domain, node, why);
     }
 
+    /// Counts a portion that was answered so and made one domain the other.
+    pub fn examined(&mut self, before: &Domain, asked: Portion, answer: PortionAnswer, after: &Domain) {
+        self.portions.examined(before, asked, answer, after);
+    }
+
     /// Counts an answer given on words that need not be a domain.
     pub fn on_words(&mut self, answer: Answer) {
         self.steps += 1;
@@ -127,7 +136,7 @@ impl Coverage {
             ("accepted with unread fields", self.unread_fields),
         ];
         let others = others.into_iter().chain(self.leaving.counts()).chain(self.late.counts());
-        let others = others.chain(self.waiting.counts());
+        let others = others.chain(self.waiting.counts()).chain(self.portions.counts());
         kinds.chain(numbers).chain(others.map(|(name, count)| (name.to_string(), count))).collect()
     }
 

@@ -162,6 +162,11 @@ impl Domain {
         [process.has_assigned(), !process.buffer.is_empty(), owns(State::Allocated), owns(State::Removed)]
     }
 
+    /// How many Retired nodes a process has.
+    pub fn retired_by(&self, id: u32) -> u32 {
+        self.nodes.iter().filter(|node| node.is_retired() && node.owner() == Some(id)).count() as u32
+    }
+
     /// How many nodes are in a state.
     pub fn count(&self, state: State) -> u32 {
         self.nodes.iter().filter(|node| node.state() == state).count() as u32

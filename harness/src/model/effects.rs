@@ -3,6 +3,7 @@
 use super::domain::{Hazard, Node, Path, Process, Store};
 use super::mistake::Mistake;
 use super::Model;
+use crate::portion::Portion;
 use crate::step::{Kind, Step};
 
 impl Model {
@@ -25,6 +26,7 @@ impl Model {
             Kind::Reinsert => self.reinsert(step),
             Kind::Leave => self.leave(step.process, step.node),
             Kind::Join => self.join(step.process),
+            Kind::Portion => return self.examine(Portion::new(step.process, step.node, step.guest)).freed,
         }
         0
     }
@@ -107,7 +109,8 @@ impl Model {
         self.domain.nodes.iter().filter(counts).count() as u32
     }
 
-    pub(super) fn scan(&mut self, scanner: u32) -> u32 {
+    /// A whole scan by this process; how many nodes it frees.
+    pub fn scan(&mut self, scanner: u32) -> u32 {
         let rules = self.rules;
         let clock = self.domain.clock;
         let seen = self.seen_by(scanner);
@@ -123,6 +126,9 @@ impl Model {
 
     /// From this age on a scan may free a node.
     pub(super) fn least_age(&self) -> u32 {
+        if self.rules.have(Mistake::NoAgeTest) {
+            return 0;
+        }
         self.delay(Mistake::ScanWithoutLateness) + 1 - self.rules.have(Mistake::FreesAtAgeT) as u32
     }
 

@@ -21,6 +21,7 @@ mistakes! {
     ScansCurrentLimboOnly
     KeepsPresenceOverSwitch
     // in the rules
+    NoAgeTest
     NoVisibleTest
     TickOneLate
     NoQuestion17
@@ -80,12 +81,28 @@ mistakes! {
     WhyHighestBehind
     WhyAsksOnFallback
     WhyAsksNodeFirst
+    // in a portion of a scan
+    PortionWithoutAge
+    PortionWithoutHazards
+    PortionForgetsOwnStores
+    PortionExaminedAreFreed
+    PortionNextIsLast
+    PortionNextPastLastRetired
+    PortionLeftFromStart
+    PortionLimitsNodes
+    PortionOfAll
+    PortionFreesPastNext
+    PortionTakesNone
+    PortionTakes257
+    PortionFromPastNodes
+    PortionNextWhereRefused
     // in the order of the questions
     AsksOwnerBeforeState
     AsksAgeBeforeClock
     AsksBufferBeforeNode
     AsksHeirBeforeTies
     AsksHazardBeforePresent
+    AsksLimitBeforeStart
     // in the check of words
     TakesLongerSlices
     TakesValidatedUnassigned
@@ -114,6 +131,7 @@ impl Mistake {
             Mistake::AsksBufferBeforeNode => Some((13, 7)),
             Mistake::AsksHeirBeforeTies => Some((22, 21)),
             Mistake::AsksHazardBeforePresent => Some((6, 20)),
+            Mistake::AsksLimitBeforeStart => Some((23, 7)),
             _ => None,
         }
     }
@@ -123,6 +141,7 @@ impl Mistake {
         Mistake::FreesAtAgeT,
         Mistake::NoStoreOnFastPath,
         Mistake::FreesTwoEpochsOn,
+        Mistake::NoAgeTest,
         Mistake::NoVisibleTest,
         Mistake::TickOneLate,
         Mistake::NoQuestion17,
@@ -135,6 +154,8 @@ impl Mistake {
         Mistake::LeaveWithAssigned,
         Mistake::LeaveToAbsent,
         Mistake::ScanWithoutLateness,
+        Mistake::PortionWithoutAge,
+        Mistake::PortionWithoutHazards,
     ];
 
     /// Those by which a process comes to hold more unfreed nodes than the bound allows.
@@ -154,6 +175,9 @@ impl Mistake {
         Mistake::ReinsertLosesGuest,
         Mistake::ReinsertNotRaised,
         Mistake::LeaveLeavesNodes,
+        Mistake::PortionFromPastNodes,
+        Mistake::PortionTakesNone,
+        Mistake::PortionTakes257,
     ];
 
     /// Those that the reference cannot object to; only answers and words tell them from the rules.
@@ -176,6 +200,12 @@ impl Mistake {
         Mistake::LeaveToSelf,
         // stores are visible earlier than they need be
         Mistake::TickWithoutLateness,
+        // as of a scan's own stores
+        Mistake::PortionForgetsOwnStores,
+        // what a scan may free is claimed by nobody, whichever of it is freed now
+        Mistake::PortionOfAll,
+        Mistake::PortionLimitsNodes,
+        Mistake::PortionFreesPastNext,
     ];
 }
 

@@ -4,6 +4,7 @@ pub mod domain;
 mod effects;
 pub mod mistake;
 pub mod panel;
+pub mod portion;
 pub mod questions;
 pub mod why;
 pub mod words;

@@ -1,9 +1,10 @@
-//! Questions 4 to 17 and 20 to 22, in the paper's order: the first with the answer no gives its number.
+//! Questions 4 to 17 and 20 to 23, in the paper's order: the first with the answer no gives its number.
 
 use super::domain::Process;
 use super::mistake::Mistake;
 use super::Model;
 use crate::layout::BUFFER;
+use crate::portion::Portion;
 use crate::step::{Field, Kind, State, Step};
 
 /// A question by its number, asked where all before it have the answer yes.
@@ -23,7 +24,8 @@ pub const QUESTIONS: &[Question] = &[
     ask(21, |model, kind, step| kind != Kind::Leave || model.may_leave(step.process)),
     ask(22, |model, kind, step| kind != Kind::Leave || model.may_inherit(step)),
     ask(6, |model, kind, step| !kind.reads(Field::Hazard) || step.hazard < model.domain.params.hazards),
-    ask(7, |model, kind, step| !kind.reads_node() || step.node < model.domain.params.nodes),
+    ask(7, |model, kind, step| !model.asks_node(kind) || step.node < model.domain.params.nodes),
+    ask(23, |model, kind, step| kind != Kind::Portion || model.is_limit(step.guest)),
     ask(8, |model, kind, step| kind.row().needs.is_none_or(|state| model.is_in(state, kind, step.node))),
     ask(9, |model, kind, step| !model.asks_owner(kind) || model.owner(step.node) == step.process),
     ask(10, |model, kind, step| kind != Kind::Check || model.assigned(step).is_some()),
@@ -84,6 +86,17 @@ impl Model {
         let heir = self.domain.processes.get(step.node as usize);
         let other = step.node != step.process || self.rules.have(Mistake::LeaveToSelf);
         other && heir.is_some_and(|heir| heir.present || self.rules.have(Mistake::LeaveToAbsent))
+    }
+
+    fn asks_node(&self, kind: Kind) -> bool {
+        kind.reads_node() && !(kind == Kind::Portion && self.rules.have(Mistake::PortionFromPastNodes))
+    }
+
+    fn is_limit(&self, limit: u32) -> bool {
+        let [least, most] = Portion::LIMITS;
+        let least = least - self.rules.have(Mistake::PortionTakesNone) as u32;
+        let most = most + self.rules.have(Mistake::PortionTakes257) as u32;
+        (least..=most).contains(&limit)
     }
 
     /// Whether the node is in the state that the kind needs.

@@ -72,7 +72,8 @@ fn asleep() -> Vec<u32> {
 
 fn refused_absent() -> Vec<Case> {
     use Kind::*;
-    let on_nodes = [(Allocate, 0), (Publish, 1), (Protect, 2), (Remove, 2), (Retire, 3), (Reinsert, 3), (Leave, 0)];
+    let on_nodes =
+        [(Allocate, 0), (Publish, 1), (Protect, 2), (Remove, 2), (Retire, 3), (Reinsert, 3), (Leave, 0), (Portion, 4)];
     let on_none = [Check, Use, Clear, Drain, Flush, Manage].map(|kind| by(1, kind, 0));
     let each = [on_nodes.map(|(kind, node)| by(1, kind, node)).to_vec(), on_none.to_vec()].concat();
     let hazards = [Protect, Check, Use, Clear].map(|kind| Step::new(kind, 1, 1, 2, 0));
@@ -81,7 +82,7 @@ fn refused_absent() -> Vec<Case> {
     let mut tied = asleep();
     tied[hazard(1) + 1] = 3;
     vec![
-        refused("every step of an absent process but a join gets 20", asleep(), &each, &[20; 13]),
+        refused("every step of an absent process but a join gets 20", asleep(), &each, &[20; 14]),
         refused("a join of a present process gets 20", asleep(), &[join(0), join(2)], &[20, 20]),
         refused("20 comes before 6", asleep(), &hazards, &[20; 4]),
         refused("20 comes before 7 and 8", asleep(), &nodes, &[20; 4]),

@@ -10,6 +10,7 @@ use crate::model::domain::Domain;
 use crate::model::mistake::Rules;
 use crate::model::words::words_of;
 use crate::params::Params;
+use crate::portion::PortionAnswer;
 use crate::random::Random;
 use crate::step::{Answer, Kind, Step};
 use crate::why::Why;
@@ -128,10 +129,10 @@ pub fn lengths(calls: &Calls, rules: Rules, seed: u64, coverage: &mut Coverage) 
 
 /// No words at all: a null pointer with length 0.
 pub fn nothing(calls: &Calls) -> Result<String, String> {
-    let expected = ([2, 3, 3, 3].map(Answer::refused), Why::Refused(3).answer(), true);
+    let expected = ([2, 3, 3, 3].map(Answer::refused), Why::Refused(3).answer(), PortionAnswer::refused(3), true);
     match calls.on_nothing() {
         found if found == expected => {
-            Ok("make 2, step 3, reachable 3 in one pass and in two, why 3, an empty run taken".into())
+            Ok("make 2, step 3, reachable 3 in one pass and in two, why 3, portion 3, an empty run taken".into())
         }
         found => Err(format!("{found:?}, expected {expected:?}")),
     }

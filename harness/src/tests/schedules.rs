@@ -7,7 +7,7 @@ use crate::library::Calls;
 use crate::model::mistake::Rules;
 use crate::params::Params;
 use crate::random::Random;
-use crate::schedule::Mood;
+use crate::schedule::{any_portion, portion, Mood};
 
 /// Runs from fresh domains, each with its own parameters and mood, until `steps` steps were taken.
 pub fn fresh(calls: &Calls, seed: u64, steps: u64, coverage: &mut Coverage) -> Result<String, String> {
@@ -42,6 +42,7 @@ pub fn from_arbitrary(calls: &Calls, rules: Rules, random: &mut Random, coverage
     let params = Params::random(random);
     let run = Lockstep::from(calls, rules, arbitrary::domain(random, params));
     run.why_all(coverage).map_err(|wrong| format!("{params}, before any step: {wrong}"))?;
+    portions(&run, random, coverage).map_err(|wrong| format!("{params}, before any step: {wrong}"))?;
     go_on(run, 12, random, coverage)
 }
 
@@ -53,7 +54,17 @@ fn go_on(mut run: Lockstep, steps: u32, random: &mut Random, coverage: &mut Cove
         run.step(step, coverage)
             .map_err(|wrong| format!("{}, step {number} ({step}): {wrong}", run.model.domain.params))?;
     }
-    run.why_all(coverage).map_err(|wrong| format!("{}, after {steps} steps: {wrong}", run.model.domain.params))
+    let after = |wrong| format!("{}, after {steps} steps: {wrong}", run.model.domain.params);
+    run.why_all(coverage).map_err(after)?;
+    portions(&run, random, coverage).map_err(after)
+}
+
+/// Some portions of what there is, each for itself.
+fn portions(run: &Lockstep, random: &mut Random, coverage: &mut Coverage) -> Result<(), String> {
+    for _ in 0..3 {
+        run.portion(portion(random, &run.model.domain), coverage)?;
+    }
+    run.portion(any_portion(random, run.model.domain.params), coverage)
 }
 
 /// Whether all was met that the tests are to meet, each at least so often.

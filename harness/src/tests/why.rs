@@ -1,6 +1,7 @@
 //! Request 6: why a node is still waiting, on domains made by hand, with the eight numbers written by hand from the papers; and the call
 //! beside the library's own scan.
 
+use super::made::{domain, retired, show, store};
 use crate::arbitrary;
 use crate::compare::unchanged;
 use crate::layout::{node_start, CLOCK, NODE};
@@ -53,26 +54,6 @@ fn check(calls: &Calls, case: &Case) -> Result<String, String> {
 
 fn case(name: &'static str, domain: &Domain, asked: &[(u32, [u32; 8])]) -> Case {
     Case { name, words: words_of(domain), tick: 0, asked: asked.to_vec() }
-}
-
-/// A domain on the fast path at epoch 0, nobody behind, with these nodes first and Free ones after them.
-fn domain(params: &[u32], clock: u32, nodes: &[Node]) -> Domain {
-    let mut domain = Domain { clock, ..Domain::fresh(Params::of(params)) };
-    domain.nodes[..nodes.len()].clone_from_slice(nodes);
-    domain
-}
-
-fn retired(owner: u32, retired_at: u32) -> Node {
-    Node::Retired { owner, guest: 70, retired_at, limbo: 0 }
-}
-
-fn show(domain: &mut Domain, process: usize, hazard: usize, node: u32) {
-    domain.processes[process].hazards[hazard].visible = Some(node);
-}
-
-fn store(domain: &mut Domain, process: usize, hazard: u32, node: Option<u32>) {
-    let time = domain.clock;
-    domain.processes[process].buffer.push_back(Store { hazard, node, time });
 }
 
 const READY: [u32; 8] = [0, 4, 0, 0, 0, 0, 1, 0];

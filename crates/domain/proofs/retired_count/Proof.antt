@@ -1,5 +1,9 @@
 -- `domain::retired_count` meets its contract: the part lent holds the nodes. Assumes nothing.
+use mathlib.Core.List.{List}
 use mathlib.Core.Path.{_∙_, ap}
+use lib.ListN.{drop}
+use Rattle.model.specs.State.{Node}
+use Rattle.model.specs.Retire.{retiredBy}
 use Rattle.lists.specs.Tests.{count}
 use Rattle.domain.proofs.Nodes.{lent-nodes}
 use borrow.Author.Needs.{needs}
@@ -28,7 +32,10 @@ retired-count-requires : tie.Need-retired-count-requires
 retired-count-requires c κs = search needs
 
 returns : tie.Need-returns
-returns c = c .retired-count .ensures ∙ ap (count _) (lent-nodes (c .before .before .before .before .before .pre) _ (c .before .before .nodes-at .ensures .0))
+returns c =
+    let start = c .before .before .before .before .before in
+    c .retired-count .ensures
+    ∙ ap (λ (ns : List Node). count (retiredBy (start .args .p .0)) (drop (start .args .from) ns)) (lent-nodes (start .pre .0) _ (c .before .before .nodes-at .ensures .0))
 
 pub retired-count-spec : {M : Type 1} → statement M
 retired-count-spec =

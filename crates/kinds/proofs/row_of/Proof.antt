@@ -55,6 +55,9 @@ array-copy-out-result-15 c = search needs
 array-copy-out-result-16 : tie.Need-array-copy-out-result-16
 array-copy-out-result-16 c = search needs
 
+array-copy-out-result-17 : tie.Need-array-copy-out-result-17
+array-copy-out-result-17 c = search needs
+
 returns : tie.Need-returns
 returns c = ap (λ n. rowCode (kindOf n)) (sym (c .before .match .keys1))
 
@@ -104,9 +107,12 @@ returns-16 : tie.Need-returns-16
 returns-16 c = ap (λ n. rowCode (kindOf n)) (sym (c .before .match .keys16))
 
 returns-17 : tie.Need-returns-17
-returns-17 c =
+returns-17 c = ap (λ n. rowCode (kindOf n)) (sym (c .before .match .keys17))
+
+returns-18 : tie.Need-returns-18
+returns-18 c =
     let none = none-of (c .before .args .kind) (search needs) (search needs) (search needs) (search needs) (search needs) (search needs) (search needs)
-    (search needs) (search needs) (search needs) (search needs) (search needs) (search needs) (search needs) (search needs) (search needs) in
+    (search needs) (search needs) (search needs) (search needs) (search needs) (search needs) (search needs) (search needs) (search needs) (search needs) in
     ap rowCode (sym none)
 
 pub row-of-spec : {M : Type 1} → statement M
@@ -129,6 +135,7 @@ row-of-spec =
     array-copy-out-result-14
     array-copy-out-result-15
     array-copy-out-result-16
+    array-copy-out-result-17
     returns
     returns-2
     returns-3
@@ -145,4 +152,5 @@ row-of-spec =
     returns-14
     returns-15
     returns-16
-    returns-17)
+    returns-17
+    returns-18)

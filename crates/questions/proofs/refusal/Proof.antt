@@ -64,8 +64,8 @@ unburdened-requires c κs = start-20 c .pre
 takes-over-requires : tie.Need-takes-over-requires
 takes-over-requires c κs = start-21 c .pre
 
-rest-requires : tie.Need-rest-requires
-rest-requires c κs = start-22 c .pre
+named-requires : tie.Need-named-requires
+named-requires c κs = start-22 c .pre
 
 returns : tie.Need-returns
 returns c = no-here 4 _ (c .before .known .ensures) (c .if1 .taken)
@@ -83,7 +83,7 @@ returns-5 : tie.Need-returns-5
 returns-5 c = past-21 (c .before .before) 22 (no-here 22 _ (c .before .takes-over .ensures) (c .if5 .taken))
 
 returns-6 : tie.Need-returns-6
-returns-6 c = past-22 (c .before) _ (c .rest .ensures)
+returns-6 c = past-22 (c .before) _ (c .named .ensures)
 
 pub refusal-spec : {M : Type 1} → statement M
 refusal-spec =
@@ -94,7 +94,7 @@ refusal-spec =
     present-or-joins-requires
     unburdened-requires
     takes-over-requires
-    rest-requires
+    named-requires
     returns
     returns-2
     returns-3

@@ -11,96 +11,60 @@ use Rattle.questions.proofs.rest.Tie as tie
 
 -- the first no from the i-th question on
 abbrev left : tie.Start → ℕ → ℕ
-left c i = firstNo (drop i (asked (c .args .kind) (c .args .words .now) (c .args .p .0) (c .args .h .0) (c .args .c .0)))
+left c i = firstNo (drop i (asked (c .args .kind) (c .args .words .now) (c .args .p .0) (c .args .h .0) 0 0))
 
 -- the start, from where question n is answered yes
-abbrev start-6 : tie.Else1 → tie.Start
-start-6 c = c .before .before .before
+abbrev start-10 : tie.Else1 → tie.Start
+start-10 c = c .before .before .before
 
-abbrev start-7 : tie.Else2 → tie.Start
-start-7 c = start-6 (c .before .before)
-
-abbrev start-8 : tie.Else3 → tie.Start
-start-8 c = start-7 (c .before .before)
-
-abbrev start-9 : tie.Else4 → tie.Start
-start-9 c = start-8 (c .before .before)
-
-abbrev start-10 : tie.Else5 → tie.Start
-start-10 c = start-9 (c .before .before)
-
-abbrev start-11 : tie.Else6 → tie.Start
+abbrev start-11 : tie.Else2 → tie.Start
 start-11 c = start-10 (c .before .before)
 
-abbrev start-12 : tie.Else7 → tie.Start
+abbrev start-12 : tie.Else3 → tie.Start
 start-12 c = start-11 (c .before .before)
 
-abbrev start-13 : tie.Else8 → tie.Start
+abbrev start-13 : tie.Else4 → tie.Start
 start-13 c = start-12 (c .before .before)
 
-abbrev start-14 : tie.Else9 → tie.Start
+abbrev start-14 : tie.Else5 → tie.Start
 start-14 c = start-13 (c .before .before)
 
-abbrev start-15 : tie.Else10 → tie.Start
+abbrev start-15 : tie.Else6 → tie.Start
 start-15 c = start-14 (c .before .before)
 
-abbrev start-16 : tie.Else11 → tie.Start
+abbrev start-16 : tie.Else7 → tie.Start
 start-16 c = start-15 (c .before .before)
 
-abbrev start-17 : tie.Else12 → tie.Start
+abbrev start-17 : tie.Else8 → tie.Start
 start-17 c = start-16 (c .before .before)
 
 -- past question n
-past-6 : (c : tie.Else1) (r : ℕ) → r ≡ left (start-6 c) 6 → r ≡ left (start-6 c) 5
-past-6 c r h = yes-then 6 (c .before .hazard-in-range .ensures) (c .if1 .left) h
+past-10 : (c : tie.Else1) (r : ℕ) → r ≡ left (start-10 c) 11 → r ≡ left (start-10 c) 10
+past-10 c r h = yes-then 10 (c .before .assigned .ensures) (c .if1 .left) h
 
-past-7 : (c : tie.Else2) (r : ℕ) → r ≡ left (start-7 c) 7 → r ≡ left (start-7 c) 5
-past-7 c r h = past-6 (c .before .before) r (yes-then 7 (c .before .node-in-range .ensures) (c .if2 .left) h)
+past-11 : (c : tie.Else2) (r : ℕ) → r ≡ left (start-11 c) 12 → r ≡ left (start-11 c) 10
+past-11 c r h = past-10 (c .before .before) r (yes-then 11 (c .before .reachable .ensures) (c .if2 .left) h)
 
-past-8 : (c : tie.Else3) (r : ℕ) → r ≡ left (start-8 c) 8 → r ≡ left (start-8 c) 5
-past-8 c r h = past-7 (c .before .before) r (yes-then 8 (c .before .state-met .ensures) (c .if3 .left) h)
+past-12 : (c : tie.Else3) (r : ℕ) → r ≡ left (start-12 c) 13 → r ≡ left (start-12 c) 10
+past-12 c r h = past-11 (c .before .before) r (yes-then 12 (c .before .validated .ensures) (c .if3 .left) h)
 
-past-9 : (c : tie.Else4) (r : ℕ) → r ≡ left (start-9 c) 9 → r ≡ left (start-9 c) 5
-past-9 c r h = past-8 (c .before .before) r (yes-then 9 (c .before .owned .ensures) (c .if4 .left) h)
+past-13 : (c : tie.Else4) (r : ℕ) → r ≡ left (start-13 c) 14 → r ≡ left (start-13 c) 10
+past-13 c r h = past-12 (c .before .before) r (yes-then 13 (c .before .room .ensures) (c .if4 .left) h)
 
-past-10 : (c : tie.Else5) (r : ℕ) → r ≡ left (start-10 c) 10 → r ≡ left (start-10 c) 5
-past-10 c r h = past-9 (c .before .before) r (yes-then 10 (c .before .assigned .ensures) (c .if5 .left) h)
+past-14 : (c : tie.Else5) (r : ℕ) → r ≡ left (start-14 c) 15 → r ≡ left (start-14 c) 10
+past-14 c r h = past-13 (c .before .before) r (yes-then 14 (c .before .store-pending .ensures) (c .if5 .left) h)
 
-past-11 : (c : tie.Else6) (r : ℕ) → r ≡ left (start-11 c) 11 → r ≡ left (start-11 c) 5
-past-11 c r h = past-10 (c .before .before) r (yes-then 11 (c .before .reachable .ensures) (c .if6 .left) h)
+past-15 : (c : tie.Else6) (r : ℕ) → r ≡ left (start-15 c) 16 → r ≡ left (start-15 c) 10
+past-15 c r h = past-14 (c .before .before) r (yes-then 15 (c .before .clock-goes-on .ensures) (c .if6 .left) h)
 
-past-12 : (c : tie.Else7) (r : ℕ) → r ≡ left (start-12 c) 12 → r ≡ left (start-12 c) 5
-past-12 c r h = past-11 (c .before .before) r (yes-then 12 (c .before .validated .ensures) (c .if7 .left) h)
+past-16 : (c : tie.Else7) (r : ℕ) → r ≡ left (start-16 c) 17 → r ≡ left (start-16 c) 10
+past-16 c r h = past-15 (c .before .before) r (yes-then 16 (c .before .stores-young .ensures) (c .if7 .left) h)
 
-past-13 : (c : tie.Else8) (r : ℕ) → r ≡ left (start-13 c) 13 → r ≡ left (start-13 c) 5
-past-13 c r h = past-12 (c .before .before) r (yes-then 13 (c .before .room .ensures) (c .if8 .left) h)
-
-past-14 : (c : tie.Else9) (r : ℕ) → r ≡ left (start-14 c) 14 → r ≡ left (start-14 c) 5
-past-14 c r h = past-13 (c .before .before) r (yes-then 14 (c .before .store-pending .ensures) (c .if9 .left) h)
-
-past-15 : (c : tie.Else10) (r : ℕ) → r ≡ left (start-15 c) 15 → r ≡ left (start-15 c) 5
-past-15 c r h = past-14 (c .before .before) r (yes-then 15 (c .before .clock-goes-on .ensures) (c .if10 .left) h)
-
-past-16 : (c : tie.Else11) (r : ℕ) → r ≡ left (start-16 c) 16 → r ≡ left (start-16 c) 5
-past-16 c r h = past-15 (c .before .before) r (yes-then 16 (c .before .stores-young .ensures) (c .if11 .left) h)
-
-past-17 : (c : tie.Else12) (r : ℕ) → r ≡ left (start-17 c) 17 → r ≡ left (start-17 c) 5
-past-17 c r h = past-16 (c .before .before) r (yes-then 17 (c .before .none-assigned .ensures) (c .if12 .left) h)
-
-hazard-in-range-requires : tie.Need-hazard-in-range-requires
-hazard-in-range-requires c κs = search needs
-
-node-in-range-requires : tie.Need-node-in-range-requires
-node-in-range-requires c κs = start-6 c .pre
-
-state-met-requires : tie.Need-state-met-requires
-state-met-requires c κs = start-7 c .pre
-
-owned-requires : tie.Need-owned-requires
-owned-requires c κs = start-8 c .pre
+past-17 : (c : tie.Else8) (r : ℕ) → r ≡ left (start-17 c) 18 → r ≡ left (start-17 c) 10
+past-17 c r h = past-16 (c .before .before) r (yes-then 17 (c .before .none-assigned .ensures) (c .if8 .left) h)
 
 assigned-requires : tie.Need-assigned-requires
-assigned-requires c κs = start-9 c .pre
+assigned-requires c κs = search needs
 
 reachable-requires : tie.Need-reachable-requires
 reachable-requires c κs = start-10 c .pre
@@ -124,52 +88,36 @@ none-assigned-requires : tie.Need-none-assigned-requires
 none-assigned-requires c κs = start-16 c .pre
 
 returns : tie.Need-returns
-returns c = no-here 6 _ (c .before .hazard-in-range .ensures) (c .if1 .taken)
+returns c = no-here 10 _ (c .before .assigned .ensures) (c .if1 .taken)
 
 returns-2 : tie.Need-returns-2
-returns-2 c = past-6 (c .before .before) 7 (no-here 7 _ (c .before .node-in-range .ensures) (c .if2 .taken))
+returns-2 c = past-10 (c .before .before) 11 (no-here 11 _ (c .before .reachable .ensures) (c .if2 .taken))
 
 returns-3 : tie.Need-returns-3
-returns-3 c = past-7 (c .before .before) 8 (no-here 8 _ (c .before .state-met .ensures) (c .if3 .taken))
+returns-3 c = past-11 (c .before .before) 12 (no-here 12 _ (c .before .validated .ensures) (c .if3 .taken))
 
 returns-4 : tie.Need-returns-4
-returns-4 c = past-8 (c .before .before) 9 (no-here 9 _ (c .before .owned .ensures) (c .if4 .taken))
+returns-4 c = past-12 (c .before .before) 13 (no-here 13 _ (c .before .room .ensures) (c .if4 .taken))
 
 returns-5 : tie.Need-returns-5
-returns-5 c = past-9 (c .before .before) 10 (no-here 10 _ (c .before .assigned .ensures) (c .if5 .taken))
+returns-5 c = past-13 (c .before .before) 14 (no-here 14 _ (c .before .store-pending .ensures) (c .if5 .taken))
 
 returns-6 : tie.Need-returns-6
-returns-6 c = past-10 (c .before .before) 11 (no-here 11 _ (c .before .reachable .ensures) (c .if6 .taken))
+returns-6 c = past-14 (c .before .before) 15 (no-here 15 _ (c .before .clock-goes-on .ensures) (c .if6 .taken))
 
 returns-7 : tie.Need-returns-7
-returns-7 c = past-11 (c .before .before) 12 (no-here 12 _ (c .before .validated .ensures) (c .if7 .taken))
+returns-7 c = past-15 (c .before .before) 16 (no-here 16 _ (c .before .stores-young .ensures) (c .if7 .taken))
 
 returns-8 : tie.Need-returns-8
-returns-8 c = past-12 (c .before .before) 13 (no-here 13 _ (c .before .room .ensures) (c .if8 .taken))
+returns-8 c = past-16 (c .before .before) 17 (no-here 17 _ (c .before .none-assigned .ensures) (c .if8 .taken))
 
 returns-9 : tie.Need-returns-9
-returns-9 c = past-13 (c .before .before) 14 (no-here 14 _ (c .before .store-pending .ensures) (c .if9 .taken))
-
-returns-10 : tie.Need-returns-10
-returns-10 c = past-14 (c .before .before) 15 (no-here 15 _ (c .before .clock-goes-on .ensures) (c .if10 .taken))
-
-returns-11 : tie.Need-returns-11
-returns-11 c = past-15 (c .before .before) 16 (no-here 16 _ (c .before .stores-young .ensures) (c .if11 .taken))
-
-returns-12 : tie.Need-returns-12
-returns-12 c = past-16 (c .before .before) 17 (no-here 17 _ (c .before .none-assigned .ensures) (c .if12 .taken))
-
-returns-13 : tie.Need-returns-13
-returns-13 c = past-17 c 0 refl
+returns-9 c = past-17 c 0 refl
 
 pub rest-spec : {M : Type 1} → statement M
 rest-spec =
     tie.close
     (tie.spec
-    hazard-in-range-requires
-    node-in-range-requires
-    state-met-requires
-    owned-requires
     assigned-requires
     reachable-requires
     validated-requires
@@ -186,8 +134,4 @@ rest-spec =
     returns-6
     returns-7
     returns-8
-    returns-9
-    returns-10
-    returns-11
-    returns-12
-    returns-13)
+    returns-9)

@@ -10,6 +10,9 @@ use Rattle.steps.proofs.take_step.Tie as tie
 domain-step-requires : tie.Need-domain-step-requires
 domain-step-requires c κs = search needs
 
+portion-step-requires : tie.Need-portion-step-requires
+portion-step-requires c κs = search needs
+
 hazard-step-requires : tie.Need-hazard-step-requires
 hazard-step-requires c κs = search needs
 
@@ -17,7 +20,7 @@ attendance-step-requires : tie.Need-attendance-step-requires
 attendance-step-requires c κs =
     let rest = c .before .before .before .before .before .before .before .match .rest in (
       c .before .before .before .before .before .before .before .before .before .pre,
-      on-attendance (c .before .before .if5 .left) (c .before .if6 .taken) (rest .0 .1) (rest .1) (rest .0 .0 .1),
+      on-attendance (c .before .before .if5 .left) (c .before .if6 .taken) (rest .0 .0 .1) (rest .0 .1) (rest .0 .0 .0 .1),
     )
 
 process-step-requires : tie.Need-process-step-requires
@@ -50,18 +53,19 @@ same-length-3 c = search needs
 returns-3 : tie.Need-returns-3
 returns-3 c = search needs
 
-returns-4 : tie.Need-returns-4
-returns-4 c = no-kind-here (c .before .before .before .pre) _ _ _ _ _ (none-below (c .if1 .taken))
-
-returns-5 : tie.Need-returns-5
-returns-5 c =
-    no-kind-here (c .before .before .before .before .before .before .before .before .pre) _ _ _ _ _ (none-beyond (c .if6 .left))
-
 same-length-4 : tie.Need-same-length-4
 same-length-4 c = search needs
 
+returns-4 : tie.Need-returns-4
+returns-4 c = search needs
+
+returns-5 : tie.Need-returns-5
+returns-5 c = no-kind-here (c .before .before .before .pre) _ _ _ _ _ (none-below (c .if1 .taken))
+
 returns-6 : tie.Need-returns-6
-returns-6 c = search needs
+returns-6 c =
+    let rest = c .before .before .before .before .before .before .match .rest in
+    no-kind-here (c .before .before .before .before .before .before .before .before .pre) _ _ _ _ _ (none-beyond (c .if6 .left) (rest .1))
 
 same-length-5 : tie.Need-same-length-5
 same-length-5 c = search needs
@@ -69,11 +73,18 @@ same-length-5 c = search needs
 returns-7 : tie.Need-returns-7
 returns-7 c = search needs
 
+same-length-6 : tie.Need-same-length-6
+same-length-6 c = search needs
+
+returns-8 : tie.Need-returns-8
+returns-8 c = search needs
+
 pub take-step-spec : {M : Type 1} → statement M
 take-step-spec =
     tie.close
     (tie.spec
     domain-step-requires
+    portion-step-requires
     hazard-step-requires
     attendance-step-requires
     process-step-requires
@@ -84,9 +95,11 @@ take-step-spec =
     returns-2
     same-length-3
     returns-3
+    same-length-4
     returns-4
     returns-5
-    same-length-4
     returns-6
     same-length-5
-    returns-7)
+    returns-7
+    same-length-6
+    returns-8)

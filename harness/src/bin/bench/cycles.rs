@@ -32,6 +32,7 @@ const CYCLES: &[Cycle] = &[
     Cycle { name: "tick", before: &[], again: &[Tick] },
     Cycle { name: "manage", before: &[], again: &[Manage] },
     Cycle { name: "clear presence", before: &[], again: &[ClearPresence] },
+    Cycle { name: "portion, none Retired", before: &[], again: &[Portion] },
     Cycle {
         name: "allocate to retire, manage to free",
         before: &[],

@@ -17,6 +17,8 @@ pub enum Beside {
     OldCall,
     /// the library's check of the words, in the same race
     Check,
+    /// the library's retire with a scan of all other nodes, in the same race; both less their check
+    WholeScan,
 }
 
 impl Beside {
@@ -28,6 +30,7 @@ impl Beside {
             Beside::Fastest => "the fastest",
             Beside::OldCall => "the old call",
             Beside::Check => "the check alone",
+            Beside::WholeScan => "a retire with scan",
         }
     }
 }
@@ -44,7 +47,7 @@ impl Goal {
             Beside::C => Some(row.plain),
             Beside::COnce => row.trusting,
             Beside::Nothing => row.nothing,
-            Beside::Fastest | Beside::OldCall | Beside::Check => None,
+            Beside::Fastest | Beside::OldCall | Beside::Check | Beside::WholeScan => None,
         };
         row.library / other.expect("the row has what its goal is beside")
     }
@@ -77,7 +80,7 @@ pub fn check(params: Params, domains: usize) -> Option<Goal> {
     beside(Beside::C, at_most)
 }
 
-/// A step, or the reachable count.
+/// A step, a portion, or the reachable count.
 pub fn call(params: Params) -> Option<Goal> {
     beside(Beside::C, if least(params) { 1.25 } else { 1.0 })
 }
@@ -100,6 +103,15 @@ pub fn count_beside_check(params: Params) -> Option<Goal> {
 pub fn why_beside_check(params: Params) -> Option<Goal> {
     if greatest(params) {
         beside(Beside::Check, 1.15)
+    } else {
+        None
+    }
+}
+
+/// A portion of few nodes on a full domain beside a scan of all.
+pub fn portion_beside_scan(params: Params) -> Option<Goal> {
+    if greatest(params) {
+        beside(Beside::WholeScan, 0.6)
     } else {
         None
     }

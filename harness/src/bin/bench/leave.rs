@@ -1,7 +1,7 @@
 //! A leave that hands over none, many or all of the nodes, and a join.
 
 use crate::goals;
-use crate::single::{rows, spread, Load};
+use crate::single::{rows, spread, Act, Load};
 use crate::table::Table;
 use harness::model::domain::{Domain, Node};
 use harness::model::words::words_of;
@@ -17,11 +17,17 @@ pub fn all(params: Params, table: &mut Table) {
     // where there is no second process, a leave is refused
     if params.processes > HEIR {
         let loads: Vec<Load> = counts(params).into_iter().map(|count| handing_over(params, count)).collect();
-        let library = rows(table, params, "leave", Step::new(Kind::Leave, LEAVER, 0, HEIR, 0), &loads, None);
+        let library = rows(table, params, &loads);
         spread(table, params, "leaves", &library, goals::spread(params));
     }
-    let join = Load { name: String::new(), words: Box::new(move |_| absent(params)) };
-    rows(table, params, "join", Step::new(Kind::Join, LEAVER, 0, 0, 0), &[join], goals::call(params));
+    let join = Load {
+        act: Act::Step(Step::new(Kind::Join, LEAVER, 0, 0, 0)),
+        what: "join",
+        name: String::new(),
+        words: Box::new(move |_| absent(params)),
+        goal: goals::call(params),
+    };
+    rows(table, params, &[join]);
 }
 
 /// None, a quarter and all of the nodes.
@@ -33,7 +39,13 @@ fn counts(params: Params) -> Vec<u32> {
 
 fn handing_over(params: Params, count: u32) -> Load {
     let words = move |seed| leaving(params, count, &mut Random::new(seed, count.into()));
-    Load { name: format!(", {count} nodes handed over"), words: Box::new(words) }
+    Load {
+        act: Act::Step(Step::new(Kind::Leave, LEAVER, 0, HEIR, 0)),
+        what: "leave",
+        name: format!(", {count} nodes handed over"),
+        words: Box::new(words),
+        goal: None,
+    }
 }
 
 /// A domain in which all nodes are Retired, so many of the leaver and the rest of the heir.

@@ -8,6 +8,7 @@ mod callers;
 mod cycles;
 mod goals;
 mod leave;
+mod portions;
 mod processes;
 mod race;
 mod retire;
@@ -36,7 +37,7 @@ fn main() {
     let mut table = Table::default();
     table.head();
     let shapes = SHAPES.map(|numbers| Params::of(&numbers));
-    for all in [rows::all, why::all, retire::all, leave::all, cycles::all] {
+    for all in [rows::all, why::all, retire::all, portions::all, leave::all, cycles::all] {
         shapes.into_iter().for_each(|params| all(params, &mut table));
     }
     if let Some(desk) = desk {

@@ -3,6 +3,7 @@
 use crate::callers::Caller;
 use harness::layout::{ANSWER, STEP};
 use harness::library::Calls;
+use harness::portion::Portion;
 use harness::step::Step;
 use std::cell::RefCell;
 use std::hint::black_box;
@@ -43,16 +44,47 @@ impl<'a, C> Steps<'a, C> {
     }
 }
 
+/// Copies domains back to what they were.
+fn put_back(domains: &mut [Vec<u32>], start: &[Vec<u32>]) {
+    for (domain, start) in domains.iter_mut().zip(start) {
+        domain.copy_from_slice(start);
+    }
+}
+
 impl<C: Caller> Work for Steps<'_, C> {
     fn restore(&mut self) {
-        for (domain, start) in self.domains.iter_mut().zip(self.start) {
-            domain.copy_from_slice(start);
-        }
+        put_back(&mut self.domains, self.start);
     }
 
     fn run(&mut self) {
         for &(domain, step) in self.schedule {
             black_box(self.caller.step(&mut self.domains[domain], step));
+        }
+    }
+}
+
+/// The same portion on each of some domains.
+pub struct Portions<'a, C> {
+    caller: &'a C,
+    start: &'a [Vec<u32>],
+    domains: Vec<Vec<u32>>,
+    asked: Portion,
+}
+
+impl<'a, C> Portions<'a, C> {
+    pub fn new(caller: &'a C, start: &'a [Vec<u32>], asked: Portion) -> Portions<'a, C> {
+        Portions { caller, start, domains: start.to_vec(), asked }
+    }
+}
+
+impl<C: Caller> Work for Portions<'_, C> {
+    fn restore(&mut self) {
+        put_back(&mut self.domains, self.start);
+    }
+
+    fn run(&mut self) {
+        for domain in &mut self.domains {
+            black_box(self.caller.portion(domain, self.asked));
         }
     }
 }

@@ -2,7 +2,7 @@
 //! is pending or its buffer is full.
 
 use crate::goals;
-use crate::single::{rows, spread, Load};
+use crate::single::{rows, spread, Act, Load};
 use crate::table::Table;
 use harness::layout::BUFFER;
 use harness::model::domain::{Domain, Node, Path, Store};
@@ -38,11 +38,14 @@ impl Due {
 
 pub fn all(params: Params, table: &mut Table) {
     let load = |due: Due| Load {
+        act: Act::Step(Step::new(Kind::Retire, 0, 0, 0, 0)),
+        what: "retire with scan",
         name: format!(", {}", due.name()),
         words: Box::new(move |seed| scanning(params, due, &mut Random::new(seed, due.nodes as u64))),
+        goal: None,
     };
     let loads: Vec<Load> = Due::all(params).into_iter().map(load).collect();
-    let library = rows(table, params, "retire with scan", Step::new(Kind::Retire, 0, 0, 0, 0), &loads, None);
+    let library = rows(table, params, &loads);
     spread(table, params, "retires", &library, goals::spread(params));
 }
 

@@ -2,6 +2,7 @@
 use mathlib.Core.Bool.{cond}
 use Prim.Native.Nat.{ℕ, _-_}
 use mathlib.Core.Path.{ap, _∙_}
+use native.Mathlib.Omega.{arith}
 use lib.Dec.{eqb}
 use borrow.Author.Needs.{needs}
 use Rattle.model.specs.State.{Reachable}
@@ -10,13 +11,13 @@ use Rattle.nodes.proofs.counts.reachable_count.Statement.{statement}
 use Rattle.nodes.proofs.counts.reachable_count.Tie as tie
 
 abbrev Inv-loop : tie.InvT-loop
-Inv-loop nodes m reachable₀ i₀ reachable i = Counting (λ n. eqb (n .state) Reachable) m nodes reachable i
+Inv-loop nodes m reachable₀ i₀ reachable i = Counting (λ n. eqb (n .state) Reachable) m nodes 0 reachable i
 
 abbrev μ-loop : tie.MeasureT-loop
 μ-loop nodes m reachable₀ i₀ reachable i = m - i
 
 loop-holds : tie.Need-loop-holds Inv-loop μ-loop
-loop-holds c = starts (c .before .pre)
+loop-holds c = starts (c .before .pre) (omega arith)
 
 state-of-requires : tie.Need-state-of-requires Inv-loop μ-loop
 state-of-requires c κs = search needs

@@ -1,4 +1,4 @@
--- `counts::retired_count` meets its contract. The loop has counted the first i nodes; the measure is the number of those left. Assumes nothing.
+-- `counts::retired_count` meets its contract. The loop has counted the nodes up to i; the measure is the number of those left. Assumes nothing.
 use mathlib.Core.Bool.{Bool, cond}
 use mathlib.Core.Path.{ap, _∙_}
 use Prim.Native.Nat.{_-_}
@@ -9,13 +9,13 @@ use Rattle.nodes.proofs.counts.retired_count.Statement.{statement}
 use Rattle.nodes.proofs.counts.retired_count.Tie as tie
 
 abbrev Inv-loop : tie.InvT-loop
-Inv-loop nodes m p retired₀ i₀ retired i = Counting (retiredBy (p .0)) m nodes retired i
+Inv-loop nodes m p from retired₀ i₀ retired i = Counting (retiredBy (p .0)) m nodes from retired i
 
 abbrev μ-loop : tie.MeasureT-loop
-μ-loop nodes m p retired₀ i₀ retired i = m - i
+μ-loop nodes m p from retired₀ i₀ retired i = m - i
 
 loop-holds : tie.Need-loop-holds Inv-loop μ-loop
-loop-holds c = starts (c .before .pre)
+loop-holds c = starts (c .before .pre .0) (c .before .pre .1)
 
 retired-by-requires : tie.Need-retired-by-requires Inv-loop μ-loop
 retired-by-requires c κs = search needs
