@@ -12,13 +12,14 @@ use lib.Dec.{leb, ltb}
 use lib.Seq.{take-nil}
 use Rattle.lists.specs.Tests.{count, countFrom}
 use Rattle.lists.specs.Sweep.{sweepFrom}
+use Rattle.lists.proofs.Sweeps.{sweep-of-none}
 
 abbrev between : ℕ → ℕ → ℕ → Bool
 between a b c = leb a c && ltb c b
 
--- ---- two that meet: z does not pass
+-- ---- two that meet
 
-module _ {A : Type 0} (z : A) (f : ℕ → A → Bool) (off : (c : ℕ) → f c z ≡ false) (a b : ℕ) (h : a ≤ b) where
+module _ {A : Type 0} (z : A) (f : ℕ → A → Bool) (a b : ℕ) (h : a ≤ b) where
   abbrev first : ℕ → A → Bool
   first c x = between 0 a c && f c x
 
@@ -41,22 +42,15 @@ module _ {A : Type 0} (z : A) (f : ℕ → A → Bool) (off : (c : ℕ) → f c 
           rw (e, le-leb 0 i (omega arith), le-leb a i (omega arith))
 
   count-meets : (i : ℕ) (x : A) → cond (first i x) 1 0 + cond (second i (cond (first i x) z x)) 1 0 ≡ cond (both' i x) 1 0
-  count-meets i x = by (ltb i a) refl (f i x) refl
+  count-meets i x = by (ltb i a) refl
     where
-      by : (y : Bool) → ltb i a ≡ y → (v : Bool) → f i x ≡ v
-          → cond (first i x) 1 0 + cond (second i (cond (first i x) z x)) 1 0 ≡ cond (both' i x) 1 0
-      by true e true v =
+      by : (y : Bool) → ltb i a ≡ y → cond (first i x) 1 0 + cond (second i (cond (first i x) z x)) 1 0 ≡ cond (both' i x) 1 0
+      by true e =
           let lo = ltb-true i a e in
-          rw (e, le-leb 0 i (omega arith), lt-ltb i b (omega arith), lt-leb a i (omega arith), v) (omega arith)
-      by true e false v =
-          let lo = ltb-true i a e in
-          rw (e, le-leb 0 i (omega arith), lt-ltb i b (omega arith), lt-leb a i (omega arith), v) (omega arith)
-      by false e true v =
+          rw (e, le-leb 0 i (omega arith), lt-ltb i b (omega arith), lt-leb a i (omega arith)) (omega arith)
+      by false e =
           let hi = ltb-false i a e in
-          rw (e, le-leb 0 i (omega arith), le-leb a i (omega arith), v) (omega arith)
-      by false e false v =
-          let hi = ltb-false i a e in
-          rw (e, le-leb 0 i (omega arith), le-leb a i (omega arith), v) (omega arith)
+          rw (e, le-leb 0 i (omega arith), le-leb a i (omega arith)) (omega arith)
 
   pub sweep-joined : (i : ℕ) (l : List A) → sweepFrom z second i (sweepFrom z first i l) ≡ sweepFrom z both' i l
   sweep-joined i [] = refl
@@ -78,12 +72,7 @@ module _ {A : Type 0} (f : ℕ → A → Bool) (a b : ℕ) where
       by false e = omega arith
 
   pub sweep-past : (z : A) (i : ℕ) (l : List A) → b ≤ i → sweepFrom z (λ c x. between a b c && f c x) i l ≡ l
-  sweep-past z i [] h = refl
-  sweep-past z i (x ∷ xs) h = rw (le-ltb i b h) (by (leb a i) (sweep-past z (suc i) xs (omega arith)))
-    where
-      by : {r : List A} (y : Bool) → r ≡ xs → cond ((y && false) && f i x) z x ∷ r ≡ x ∷ xs
-      by true e = ap (λ r. x ∷ r) e
-      by false e = ap (λ r. x ∷ r) e
+  sweep-past z i l h = sweep-of-none z _ i l (count-past i l h)
 
 -- ---- beyond what is swept
 

@@ -82,9 +82,6 @@ module _ {A : Type 0} (f : A → Bool) where
 
   -- ---- by places
 
-  pub past-low : (l i : ℕ) (xs : List A) → i ≤ pastFrom f l i xs
-  past-low l i xs = omega (arith, past-gone l i xs)
-
   pub past-high : (l i : ℕ) (xs : List A) → pastFrom f l i xs ≤ i + length xs
   past-high l i xs = omega (arith, past-gone l i xs, gone-high l xs)
 

@@ -145,10 +145,10 @@ module _ (d : Domain) (p : ℕ) (full : length (d .nodes) ≡ d .params .nodes) 
 
   -- two scans that meet are one
   joined : (a b : ℕ) → a ≤ b → partialScan (upTo a) p a b .after ≡ upTo b
-  joined a b h = ap (withNodes d) (sweep-joined freeNode (due d p) (λ c. refl) a b h 0 (d .nodes))
+  joined a b h = ap (withNodes d) (sweep-joined freeNode (due d p) a b h 0 (d .nodes))
 
   added : (a b : ℕ) → a ≤ b → freedTo a + partialScan (upTo a) p a b .value ≡ freedTo b
-  added a b h = count-joined freeNode (due d p) (λ c. refl) a b h 0 (d .nodes)
+  added a b h = count-joined freeNode (due d p) a b h 0 (d .nodes)
 
   -- what holds of portions from node a on, the nodes before it scanned
   record Meets (a : ℕ) (x : InPortions) : Type 0 where

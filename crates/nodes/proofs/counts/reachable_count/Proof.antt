@@ -35,7 +35,9 @@ loop-less : tie.Need-loop-less Inv-loop μ-loop
 loop-less c = search needs
 
 loop-again : tie.Need-loop-again Inv-loop μ-loop
-loop-again c = turn (c .before .before .before .loop .inv) (c .before .before .loop-test .taken) (c .one-if .ensures .0 ∙ ap (λ (s : ℕ). cond (eqb s Reachable) 1 0) (c .before .state-of .ensures))
+loop-again c =
+    turn (c .before .before .before .loop .inv) (c .before .before .loop-test .taken)
+    (c .one-if .ensures .0 ∙ ap (λ (s : ℕ). cond (eqb s Reachable) 1 0) (c .before .state-of .ensures))
 
 returns : tie.Need-returns Inv-loop μ-loop
 returns c = ends (c .before .loop .inv) (c .loop-test .left)

@@ -37,7 +37,8 @@ loop-less c = search needs
 
 loop-again : tie.Need-loop-again Inv-loop μ-loop
 loop-again c =
-    turn (c .before .before .before .before .loop .inv) (c .before .before .before .loop-test .taken) (c .before .before .if1 .left) (c .one-if .ensures .0 ∙ ap (λ (b : Bool). cond b 1 0) (c .before .retired-by .ensures))
+    turn (c .before .before .before .before .loop .inv) (c .before .before .before .loop-test .taken) (c .before .before .if1 .left)
+    (c .one-if .ensures .0 ∙ ap (λ (b : Bool). cond b 1 0) (c .before .retired-by .ensures))
 
 returns-2 : tie.Need-returns-2 Inv-loop μ-loop
 returns-2 c = ends (c .before .loop .inv) (c .loop-test .left)

@@ -17,7 +17,8 @@ same-length c = search needs
 returns : tie.Need-returns
 returns c =
     let a = c .before .before .before .before .before .before .before .args in
-    none-met (c .before .before .before .before .before .before .before .pre .0) (a .p .0) (a .c .0) (a .limit) (c .before .before .before .before .reach .ensures) (c .if1 .taken) (c .before .before .retired-count .ensures)
+    none-met (c .before .before .before .before .before .before .before .pre .0) (a .p .0) (a .c .0) (a .limit)
+    (c .before .before .before .before .reach .ensures) (c .if1 .taken) (c .before .before .retired-count .ensures)
 
 scan-requires : tie.Need-scan-requires
 scan-requires c κs = search needs
