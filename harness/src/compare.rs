@@ -53,7 +53,13 @@ impl<'a> Lockstep<'a> {
         Lockstep { calls, model, lent, expected, panel, turn: 0, reference: None }
     }
 
-    pub fn step(&mut self, step: Step, coverage: &mut Coverage) -> Result<(), String> {
+    /// The library's words.
+    pub fn words(&self) -> &[u32] {
+        self.lent.words()
+    }
+
+    /// A step, and how the library answers it.
+    pub fn step(&mut self, step: Step, coverage: &mut Coverage) -> Result<Answer, String> {
         if let Some(asked) = Portion::of(step) {
             self.portion(asked, coverage)?;
         }
@@ -73,7 +79,7 @@ impl<'a> Lockstep<'a> {
             reference.follow(step, answer, self.lent.words()).map_err(|e| format!("reference: {e}"))?;
         }
         coverage.after(&self.model.domain, step, answer);
-        Ok(())
+        Ok(answer)
     }
 
     /// Why a node waits, why a Retired one does, and why one that is out of range: others at each turn.

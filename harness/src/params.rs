@@ -7,7 +7,7 @@ use std::fmt::{Display, Formatter, Result};
 // switch and nodes are freed within a few steps, and of a middling one.
 macro_rules! parameters {
     ($($(#[$doc:meta])* $name:ident: $least:literal to $most:literal, small $small:literal, middling $middling:literal;)*) => {
-        #[derive(Clone, Copy, Debug, PartialEq)]
+        #[derive(Clone, Copy, Debug, PartialEq, Eq, Hash)]
         pub struct Params {
             $($(#[$doc])* pub $name: u32,)*
         }

@@ -55,6 +55,12 @@ impl Mood {
         Mood { weights: weights(), accepted_percent: 100, unread_percent: 0 }
     }
 
+    /// The same mood without steps of this kind.
+    pub fn never(mut self, kind: Kind) -> Mood {
+        self.weights[kind as usize - 1] = 0;
+        self
+    }
+
     /// The next step for the model's domain.
     pub fn step(&self, random: &mut Random, model: &Model) -> Step {
         let kind = self.kind(random);
