@@ -173,7 +173,8 @@ impl Model {
     }
 
     fn manage(&mut self, id: u32) -> u32 {
-        let threshold = self.domain.params.quiescence_threshold;
+        let one_more = self.rules.have(Mistake::CountsToOneMoreThanQ) as u32;
+        let threshold = self.domain.params.quiescence_threshold + one_more;
         let process = self.process(id);
         process.calls = (process.calls + 1) % threshold;
         if process.calls != 0 {
@@ -194,14 +195,25 @@ impl Model {
         let global = self.domain.epoch;
         if self.domain.process(id).epoch != global {
             self.process(id).epoch = global;
-            let list = (global + self.rules.have(Mistake::FreesTwoEpochsOn) as u32) % 3;
+            let list = self.due_list(global);
             return self.free_where(|_, owner, _, limbo| owner == id && limbo == list);
         }
-        let behind = self.compared(Mistake::WaitsForAbsentEpoch).filter(|process| process.epoch != global).count();
+        let waits_for = (global + self.rules.have(Mistake::AdvanceWaitsForOneMore) as u32) % 3;
+        let behind = self.compared(Mistake::WaitsForAbsentEpoch).filter(|process| process.epoch != waits_for).count();
         if behind <= self.rules.have(Mistake::AdvancesWithOneBehind) as usize {
             self.domain.epoch = (global + 1) % 3;
         }
         0
+    }
+
+    /// The list that a process frees as it comes to this epoch.
+    fn due_list(&self, epoch: u32) -> u32 {
+        let on = match self.rules {
+            rules if rules.have(Mistake::FreesTwoEpochsOn) => 1,
+            rules if rules.have(Mistake::FreesListOfBefore) => 2,
+            _ => 0,
+        };
+        (epoch + on) % 3
     }
 
     /// The processes whose epochs or presence words are compared: those that are present, and by a mistake all.

@@ -36,6 +36,10 @@ mistakes! {
     RefusedCheckClearsValidated
     FlushDrainsOnce
     ScanLooksAtAssigned
+    // in the epochs: nodes are freed never, two epochs early, and late
+    AdvanceWaitsForOneMore
+    FreesListOfBefore
+    CountsToOneMoreThanQ
     // in what a scan sees of pending stores
     OwnStoresUnknown
     OwnFirstStore
@@ -148,6 +152,7 @@ impl Mistake {
         Mistake::ChecksRemoved,
         Mistake::AdvancesWithOneBehind,
         Mistake::ProtectKeepsValidated,
+        Mistake::FreesListOfBefore,
         Mistake::LeaveKeepsLimbo,
         Mistake::AbsentMayAct,
         Mistake::JoinKeepsEpoch,
@@ -190,6 +195,8 @@ impl Mistake {
         // a claim's store is no later than the first retirement
         Mistake::LeaveKeepsStamp,
         // nodes are freed later, and the scans that keep the bound go on
+        Mistake::AdvanceWaitsForOneMore,
+        Mistake::CountsToOneMoreThanQ,
         Mistake::WaitsForAbsentEpoch,
         Mistake::WaitsForAbsentPresence,
         // what stays behind claims nothing, and can only stop the clock or a node's way until its process joins
@@ -206,6 +213,19 @@ impl Mistake {
         Mistake::PortionOfAll,
         Mistake::PortionLimitsNodes,
         Mistake::PortionFreesPastNext,
+    ];
+
+    /// Those by which a node is still Retired after the rounds within which it is to be freed.
+    pub const LATE: &'static [Mistake] = &[
+        Mistake::AdvanceWaitsForOneMore,
+        Mistake::CountsToOneMoreThanQ,
+        Mistake::WaitsForAbsentEpoch,
+        // nobody frees the nodes of an owner that is absent
+        Mistake::LeaveLeavesNodes,
+        // an owner passes over the epoch of its list
+        Mistake::AdvancesWithOneBehind,
+        // the epoch waits for one that joined behind it
+        Mistake::JoinKeepsEpoch,
     ];
 }
 

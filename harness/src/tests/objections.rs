@@ -13,6 +13,7 @@ use crate::step::{Kind, Step};
 pub fn by_hand(mistake: Mistake) -> Option<(Params, Vec<Step>)> {
     let (two, three) = (Params::of(&[2, 1, 1, 1, 1, 2]), Params::of(&[3, 1, 1, 1, 1, 2]));
     match mistake {
+        Mistake::FreesListOfBefore => Some((two, claimed_an_epoch_on())),
         Mistake::AbsentMayAct => Some((two, absent_claims())),
         Mistake::LeaveWithAssigned => Some((two, leaver_claims())),
         Mistake::JoinKeepsEpoch => Some((two, joined_behind())),
@@ -28,6 +29,12 @@ fn steps(list: &[(u32, Kind)]) -> Vec<Step> {
 }
 
 use Kind::*;
+
+/// Process 1 claims at epoch 0. Process 0 retires to list 0 and comes to epoch 1.
+fn claimed_an_epoch_on() -> Vec<Step> {
+    let claimed = [(0, Allocate), (0, Publish), (1, Protect), (1, Check), (0, Remove), (0, Retire)];
+    steps(&[&claimed[..], &[(0, Manage), (0, Manage)]].concat())
+}
 
 /// Process 1 is absent, so the epochs do not wait for its claim.
 fn absent_claims() -> Vec<Step> {
