@@ -9,8 +9,8 @@ use harness::library::{PLAIN, QSENSE};
 use harness::model::mistake::Rules;
 use harness::report::Report;
 use harness::tests::{
-    books, edges, examples, late, leaving, make, malformed, mistakes, panel, portion_runs, portions, runs, schedules,
-    why, why_lines,
+    books, edges, examples, late, leaving, make, malformed, mistakes, panel, portion_runs, portions, round_orders,
+    round_runs, rounds, runs, schedules, why, why_lines,
 };
 use std::path::PathBuf;
 use std::process::ExitCode;
@@ -113,6 +113,9 @@ fn test(options: &Options) -> ExitCode {
     why::all(&mut report, &QSENSE, seed);
     portions::all(&mut report, &QSENSE);
     portion_runs::all(&mut report, &QSENSE, seed);
+    rounds::all(&mut report, &QSENSE);
+    round_orders::all(&mut report, &QSENSE);
+    round_runs::all(&mut report, &QSENSE, seed);
     report.test("every count met", || schedules::covered(&coverage, options.steps / 6_000));
     report.test("run as steps one by one", || runs::one_by_one(&QSENSE, seed, 3_000));
     report.test("run with lengths that do not fit", || runs::wrong_lengths(&QSENSE, seed));
@@ -142,6 +145,7 @@ fn soak(seconds: u64, first_seed: u64) -> ExitCode {
             malformed::some_words(&QSENSE, rules, seed, 100_000, &mut coverage)
         });
         report.test(&format!("seed {seed}, run"), || runs::one_by_one(&QSENSE, seed, 2_000));
+        report.test(&format!("seed {seed}, rounds"), || round_runs::put_off(&QSENSE, seed, 400_000));
         seed += 1;
     }
     println!("{} steps", coverage.steps);

@@ -42,7 +42,7 @@ pub fn tried(report: &mut Report, calls: &Calls, cases: impl IntoIterator<Item =
     }
 }
 
-fn check(calls: &Calls, case: &Case) -> Result<String, String> {
+pub fn check(calls: &Calls, case: &Case) -> Result<String, String> {
     let mut words = case.words.clone();
     holds("library", case, &mut words, |words, step| calls.step(words, step))?;
     let mut words = case.words.clone();
