@@ -7,8 +7,8 @@ use crate::portion::{Portion, PortionAnswer};
 use crate::report::Report;
 use std::path::Path;
 
-pub const NAMES: [&str; 10] =
-    ["first", "fallback", "kept", "epoch", "mail", "repost", "night", "late", "waits", "portions"];
+pub const NAMES: [&str; 11] =
+    ["first", "fallback", "kept", "epoch", "mail", "repost", "night", "late", "waits", "portions", "rounds"];
 
 pub fn all(report: &mut Report, calls: &Calls, folder: &Path) {
     for name in NAMES {
