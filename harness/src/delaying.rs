@@ -26,8 +26,8 @@ pub fn params(random: &mut Random) -> Params {
     }
 }
 
-/// A schedule for a fresh domain of a machine by these rules. Some processes leave at once, and more may in its first part; later nobody
-/// does. It ends where a node is still Retired after the rounds within which it is to be freed.
+/// A schedule for a fresh domain of a machine by these rules. Some processes leave at once, and more may in its first part; later all may but
+/// the owner of the node whose free is put off. It ends where a node is still Retired after the rounds within which it is to be freed.
 pub fn schedule(random: &mut Random, params: Params, rules: Rules) -> Vec<Step> {
     let (mut delay, mut steps) = (Delay::new(random, params, rules), Vec::new());
     let (leave_percent, first_part) = (*random.of(&[0, 0, 40, 80]), *random.of(&[0, 20, 100]));
@@ -98,11 +98,12 @@ impl Delay {
         waited_for.min_by_key(|&id| (if any { 0 } else { nearness(domain, self.node, id) }, random.word()))
     }
 
-    /// Any step but a manage and an accepted leave.
+    /// Any step but a manage and an accepted leave by the owner of the node.
     fn other(&self, random: &mut Random) -> Step {
+        let owner = self.model.domain.node(self.node).owner();
         loop {
             let step = self.between.step(random, &self.model);
-            if step.kind != Kind::Leave as u32 || self.model.refusal(step) != 0 {
+            if step.kind != Kind::Leave as u32 || owner != Some(step.process) || self.model.refusal(step) != 0 {
                 return step;
             }
         }

@@ -1,5 +1,5 @@
 //! Request 8: how many rounds Retired nodes wait on the fast path, told from steps, their answers and the words alone. A round is a stretch
-//! of steps in which each process that is present at its start has at least Q accepted manages.
+//! of steps in which each process that is present at its start, and does not leave in it, has at least Q accepted manages.
 
 use crate::layout::{node_start, process_start, LEAD_PRESENT, PATH};
 use crate::params::Params;
@@ -14,39 +14,40 @@ const RETIRED: u32 = State::Retired as u32;
 /// Who was present while a node waited.
 #[derive(Clone, Copy, Debug, PartialEq, Eq, Hash)]
 pub enum Company {
-    /// one process
+    /// one process at the start; others may have joined, and left again
     Alone,
     /// several, the same all the while
     Same,
-    /// some joined
-    Joined,
+    /// several at the start; some joined or left
+    Changing,
 }
 
 impl Company {
-    pub const ALL: [Company; 3] = [Company::Alone, Company::Same, Company::Joined];
+    pub const ALL: [Company; 3] = [Company::Alone, Company::Same, Company::Changing];
 
     /// A node is freed within so many rounds.
     pub const fn most(self) -> usize {
         match self {
             Company::Alone => 6,
-            Company::Same | Company::Joined => 7,
+            Company::Same | Company::Changing => 7,
         }
     }
 }
 
-/// How a node waits since the stretch began or, if that is later, since it was retired. Counted from any later step its rounds are no
+/// How a node waits since the stretch began or, if that is later, since it was retired or handed over. Counted from any later step its rounds are no
 /// more: the first, the second and so on from there end no earlier than those from here.
 #[derive(Clone, PartialEq, Eq, Hash)]
 struct Wait {
     /// the rounds that are over
     complete: usize,
     company: Company,
+    owner: u32,
     /// how many accepted manages of each process the round in hand waits for
     to_come: Vec<u32>,
 }
 
-/// The Retired nodes of a run, each with its rounds. A stretch ends where the path is not fast and where a process leaves; then all begin
-/// anew.
+/// The Retired nodes of a run, each with its rounds. A stretch ends where the path is not fast; then all begin anew. What a leaver hands over
+/// begins anew too.
 #[derive(Clone, PartialEq, Eq, Hash)]
 pub struct Rounds {
     params: Params,
@@ -74,23 +75,24 @@ impl Rounds {
 
     /// Follows a step that was answered so and left these words. What is wrong is a node that is still Retired after the most rounds.
     pub fn follow(&mut self, step: Step, answer: Answer, words: &[u32], tally: &mut Tally) -> Result<(), String> {
-        let accepted = |kind: Kind| answer.refusal == 0 && step.kind == kind as u32;
         let was_fast = std::mem::replace(&mut self.path, words[PATH]) == FAST;
         let is_fast = self.path == FAST;
-        if !was_fast || !is_fast || accepted(Kind::Leave) {
-            let waited = was_fast && self.waits.iter().any(Option::is_some);
-            tally.ended[!is_fast as usize] += waited as u64;
+        if !was_fast || !is_fast {
+            tally.ended_by_path += (was_fast && self.waits.iter().any(Option::is_some)) as u64;
             self.begin(words);
             return Ok(());
         }
-        let (joined, managed) = (accepted(Kind::Join), accepted(Kind::Manage).then_some(step.process));
+        let turn = Turn::of(step, answer);
         let next = self.round(words);
         for (id, wait) in self.waits.iter_mut().enumerate() {
-            match (words[node_start(self.params, id)], wait.as_mut()) {
-                (RETIRED, None) => *wait = Some(Wait::begin(&next)),
-                (RETIRED, Some(on)) => {
-                    on.go_on(joined, managed, &next).map_err(|wrong| format!("node {id} {wrong}"))?
+            let [state, owner] = [0, 1].map(|word| words[node_start(self.params, id) + word]);
+            match (state, wait.as_mut()) {
+                (RETIRED, None) => *wait = Some(Wait::begin(owner, &next)),
+                (RETIRED, Some(on)) if on.owner != owner => {
+                    tally.ended_by_owner += 1;
+                    *wait = Some(Wait::begin(owner, &next));
                 }
+                (RETIRED, Some(on)) => on.go_on(turn, &next).map_err(|wrong| format!("node {id} {wrong}"))?,
                 (FREE, Some(over)) => {
                     tally.freed(over);
                     *wait = None;
@@ -104,8 +106,9 @@ impl Rounds {
 
     fn begin(&mut self, words: &[u32]) {
         let round = self.round(words);
-        let is_retired = |id| words[node_start(self.params, id)] == RETIRED;
-        self.waits = (0..self.params.nodes as usize).map(|id| is_retired(id).then(|| Wait::begin(&round))).collect();
+        let node = |id| &words[node_start(self.params, id)..];
+        let wait = |id| (node(id)[0] == RETIRED).then(|| Wait::begin(node(id)[1], &round));
+        self.waits = (0..self.params.nodes as usize).map(wait).collect();
     }
 
     /// What a round waits for that begins with these words.
@@ -115,30 +118,56 @@ impl Rounds {
     }
 }
 
+/// What a step is to rounds.
+#[derive(Clone, Copy)]
+enum Turn {
+    Manage(u32),
+    Leave(u32),
+    Join,
+    Other,
+}
+
+impl Turn {
+    fn of(step: Step, answer: Answer) -> Turn {
+        match (answer.refusal, Kind::from_number(step.kind)) {
+            (0, Some(Kind::Manage)) => Turn::Manage(step.process),
+            (0, Some(Kind::Leave)) => Turn::Leave(step.process),
+            (0, Some(Kind::Join)) => Turn::Join,
+            _ => Turn::Other,
+        }
+    }
+}
+
 impl Wait {
-    fn begin(round: &[u32]) -> Wait {
+    fn begin(owner: u32, round: &[u32]) -> Wait {
         let present = round.iter().filter(|&&manages| manages > 0).count();
         let company = if present > 1 { Company::Same } else { Company::Alone };
-        Wait { complete: 0, company, to_come: round.to_vec() }
+        Wait { complete: 0, company, owner, to_come: round.to_vec() }
     }
 
-    /// Over a step that did not free the node: by it a process may have joined or managed. A round that begins after it waits for `next`.
-    fn go_on(&mut self, joined: bool, managed: Option<u32>, next: &[u32]) -> Result<(), String> {
-        if joined {
-            self.company = Company::Joined;
+    /// Over a step that did not free the node, and by which its owner did not leave. A round that begins after it waits for `next`.
+    fn go_on(&mut self, turn: Turn, next: &[u32]) -> Result<(), String> {
+        if let (Turn::Leave(_) | Turn::Join, Company::Same) = (turn, self.company) {
+            self.company = Company::Changing;
         }
-        if let Some(process) = managed {
-            let to_come = &mut self.to_come[process as usize];
-            *to_come = to_come.saturating_sub(1);
-            if self.to_come.iter().all(|&manages| manages == 0) {
-                self.complete += 1;
-                self.to_come.copy_from_slice(next);
-            }
+        match turn {
+            Turn::Manage(process) => self.wait_less(process, 1),
+            Turn::Leave(process) => self.wait_less(process, u32::MAX),
+            Turn::Join | Turn::Other => {}
+        }
+        if self.to_come.iter().all(|&manages| manages == 0) {
+            self.complete += 1;
+            self.to_come.copy_from_slice(next);
         }
         match self.complete < self.company.most() {
             true => Ok(()),
             false => Err(format!("is still Retired after {} rounds", self.complete)),
         }
+    }
+
+    fn wait_less(&mut self, process: u32, manages: u32) {
+        let to_come = &mut self.to_come[process as usize];
+        *to_come = to_come.saturating_sub(manages);
     }
 }
 
@@ -146,8 +175,10 @@ impl Wait {
 #[derive(Default)]
 pub struct Tally {
     freed: [[u64; Company::Same.most()]; Company::ALL.len()],
-    /// how many stretches in which a node waited were ended by a leave, and by the path
-    pub ended: [u64; 2],
+    /// how many nodes were handed over while they waited
+    pub ended_by_owner: u64,
+    /// how many stretches in which a node waited were ended by the path
+    pub ended_by_path: u64,
 }
 
 impl Tally {
@@ -172,7 +203,6 @@ impl Display for Tally {
         for company in Company::ALL.into_iter().filter(|&company| self.longest(company) > 0) {
             write!(f, " {company:?} {:?}", self.by_round(company))?;
         }
-        let [by_leave, by_path] = self.ended;
-        write!(f, "; stretches ended: {by_leave} by a leave, {by_path} by the path")
+        write!(f, "; {} handed over, {} stretches ended by the path", self.ended_by_owner, self.ended_by_path)
     }
 }

@@ -9,17 +9,18 @@ use crate::rounds::{Company, Rounds, Tally};
 use crate::step::{Kind, Step};
 use std::collections::HashSet;
 
-/// N, Q, C, and the most rounds: of one process alone, of the same processes, and where some joined. Somebody must be behind as a node is
-/// retired for the seventh round to be needed: nobody is where one is alone, and where the second of two has joined it. If C = 1, a node
-/// waits on the fast path from a manage on by which the path is fast again; that of one alone acts too, which saves a round.
+/// N, Q, C, and the most rounds: of one process alone at the start, of the same processes, and where some joined or left. Somebody must be
+/// behind as a node is retired for the seventh round to be needed, and nobody is where one is alone; another may leave in the sixth instead
+/// of managing. If C = 1, a node waits on the fast path from a manage on by which the path is fast again; that of one alone acts too, which
+/// saves a round.
 const SIZES: [(u32, u32, u32, [usize; 3]); 9] = [
     (1, 1, 2, [6, 0, 0]),
     (1, 3, 2, [6, 0, 0]),
     (1, 1, 1, [5, 0, 0]),
-    (2, 1, 2, [6, 7, 6]),
-    (2, 3, 2, [6, 7, 6]),
-    (2, 1, 1, [6, 7, 6]),
-    (2, 2, 1, [6, 7, 6]),
+    (2, 1, 2, [6, 7, 7]),
+    (2, 3, 2, [6, 7, 7]),
+    (2, 1, 1, [6, 7, 7]),
+    (2, 2, 1, [6, 7, 7]),
     (3, 1, 2, [6, 7, 7]),
     (3, 1, 1, [6, 7, 7]),
 ];

@@ -84,7 +84,9 @@ fn any_order(calls: &Calls, seed: u64, steps: u64) -> Result<String, String> {
         });
         (params, steps.collect())
     })?;
-    match Company::ALL.into_iter().all(|company| tally.longest(company) > 3) && !tally.ended.contains(&0) {
+    match Company::ALL.into_iter().all(|company| tally.longest(company) > 3)
+        && tally.ended_by_owner.min(tally.ended_by_path) > 0
+    {
         true => Ok(said),
         false => Err(format!("too little was met: {said}")),
     }

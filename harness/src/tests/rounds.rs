@@ -97,8 +97,8 @@ fn alone() -> Vec<ByHand> {
     ]
 }
 
-/// Seven stretches in which each process that is present at the start manages; but the path is not fast, a process leaves, it manages less
-/// than Q times, or its manages are refused.
+/// Seven stretches in which each process that is present at the start manages; but the path is not fast, the owner leaves, a process manages
+/// less than Q times, or its manages are refused.
 fn premises() -> Vec<ByHand> {
     let (params, twice) = (Params::of(&[2, 1, 1, 3, 1, 2]), Params::of(&[2, 1, 1, 3, 2, 2]));
     // all are at epoch 2, so the node passes to list 2
@@ -134,7 +134,8 @@ fn refused() -> ByHand {
     refused
 }
 
-/// Process 2 is absent, and joins in the second round, before the epoch moves on; that round does not wait for it, the later ones do.
+/// Process 2 is absent, and joins in the second round, before the epoch moves on; that round does not wait for it, the later ones do. And of
+/// two the one that is not the owner leaves in the sixth, without its manage.
 fn joins() -> Vec<ByHand> {
     let params = Params::of(&[3, 1, 1, 3, 1, 2]);
     let first = [vec![by(2, Kind::Leave, 0)], rounds(1)].concat();
@@ -142,9 +143,11 @@ fn joins() -> Vec<ByHand> {
     let later = manages(&[[0, 2, 1], [1, 0, 2], [0, 2, 1], [0, 1, 2]].concat());
     let six = [first, second, later].concat();
     let seven = [six.clone(), manages(&[1, 2, 0])].concat();
+    let other_leaves = [rounds(5), manages(&[0]), vec![by(1, Kind::Leave, 0)], manages(&[0])].concat();
     vec![
         waits("six with a join in the second leave it Retired", params, six, 6),
         freed("and the seventh frees it all the same", params, seven, 7),
+        freed("and so where the other leaves in the sixth", Params::of(&[2, 1, 1, 3, 1, 2]), other_leaves, 7),
     ]
 }
 
