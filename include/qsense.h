@@ -67,6 +67,8 @@ qsense_answer qsense_make(uint32_t *words, size_t len, uint32_t n, uint32_t k, u
  * A scan frees the Retired nodes of the process that were retired more than T + E ticks ago and that it sees in no hazard: its own hazards
  * count as the node of the last pending store to them, or else as the visible one, those of others as the visible one. A portion does the
  * same to a part of them, on either path, and switches none; qsense_portion says to which.
+ * On the fast path a Retired node waits for manages: it is freed by the end of seven rounds, stretches of steps in each of which every process
+ * that is present has at least Q accepted ones, if the path stays fast and its owner does not leave meanwhile.
  * The value is 0 where none is named. Refused at the first no, in this order, with value 0 and no word changed:
  *    3  the words are a well-formed domain
  *    4  the kind is 1 to 17

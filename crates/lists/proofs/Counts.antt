@@ -115,3 +115,17 @@ pub count-fewer : {A : Type 0} (f g : ℕ → A → Bool) (i : ℕ) (l : List A)
     → countFrom f i l ≤ countFrom g i l
 count-fewer f g i [] h = omega arith
 count-fewer f g i (x ∷ xs) h = one-le (f i x) (g i x) _ _ (h i x) (count-fewer f g (suc i) xs h)
+
+-- what passes is counted; and two that pass are one, where no more are counted
+count-some : {A : Type 0} (f : A → Bool) (l : List A) (i : ℕ) (z : A) → f z ≡ false → f (getD l i z) ≡ true → 1 ≤ count f l
+count-some f [] i z h e = absurd (false≢true (sym h ∙ e))
+count-some f (x ∷ xs) zero z h e = rw e (omega arith)
+count-some f (x ∷ xs) (suc i) z h e = omega (arith, count-some f xs i z h e)
+
+pub count-one : {A : Type 0} (f : A → Bool) (l : List A) (i j : ℕ) (z : A) → f z ≡ false → count f l ≤ 1
+    → f (getD l i z) ≡ true → f (getD l j z) ≡ true → i ≡ j
+count-one f [] i j z h few a b = absurd (false≢true (sym h ∙ a))
+count-one f (x ∷ xs) zero zero z h few a b = refl
+count-one f (x ∷ xs) zero (suc j) z h few a b = absurd (omega (arith, rw a at few, count-some f xs j z h b))
+count-one f (x ∷ xs) (suc i) zero z h few a b = absurd (omega (arith, rw b at few, count-some f xs i z h a))
+count-one f (x ∷ xs) (suc i) (suc j) z h few a b = ap suc (count-one f xs i j z h (omega (arith, few)) a b)

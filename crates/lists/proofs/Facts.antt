@@ -55,6 +55,11 @@ module _ {A : Type 0} (P : A → Type 0) where
   all-sweep z f i [] k h = tt
   all-sweep z f i (x ∷ xs) k h = (by-cond P (f i x) (λ _. k) (λ _. h .0), all-sweep z f (suc i) xs k (h .1))
 
+-- a test that holds wherever another does
+pub every-follows : {A : Type 0} (f g : A → Bool) (l : List A) → ((a : A) → f a ≡ true → g a ≡ true) → every f l ≡ true → every g l ≡ true
+every-follows f g [] k h = refl
+every-follows f g (x ∷ xs) k h = let b = both (f x) _ h in rw (k x (b .0)) (every-follows f g xs k (b .1))
+
 -- a place with a fact that the default has not is inside
 pub inside : {A : Type 0} (P : A → Type 0) (l : List A) (i : ℕ) (d : A) → (P d → ⊥) → P (getD l i d) → i < length l
 inside P [] i d n h = absurd (n h)

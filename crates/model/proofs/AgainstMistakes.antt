@@ -1,4 +1,4 @@
--- Each of forty plausible mistakes is told from the rules by a closed schedule, and each of nine in what a portion says by its numbers, by
+-- Each of forty-three plausible mistakes is told from the rules by a closed schedule, and each of nine in what a portion says by its numbers, by
 -- computation. Assumes nothing.
 use Prim.Native.Nat.{ℕ, _+_}
 use mathlib.Core.Bool.{false, false≢true}
@@ -33,6 +33,9 @@ pub told-apart : All ToldApart mistakes
 unfolding step fresh
 told-apart =
     (refl, refl, apart _ _ refl)
+    then (refl, refl, apart _ _ refl)
+    then (refl, refl, apart _ _ refl)
+    then (refl, refl, apart _ _ refl)
     then (refl, refl, apart _ _ refl)
     then (refl, refl, apart _ _ refl)
     then (refl, refl, apart _ _ refl)

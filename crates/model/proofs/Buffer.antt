@@ -16,7 +16,7 @@ use Rattle.model.specs.State.{freeNode, noProcess, processOf, withClock,
 use Rattle.model.specs.Hazards.{here, pending, assigning, assign, committing, drained, flushed, latest, young}
 use Rattle.model.proofs.Invariant.{hazardIn, Timely, Held, ProcessInv, ProcessWith, ProcessOk}
 use Rattle.model.proofs.Invariant.{Near, Inv}
-use Rattle.model.proofs.Updates.{set-process}
+use Rattle.model.proofs.Updates.{set-process, stays}
 
 latest-snoc : (b : List Pending) (e : Pending) (h v : ℕ) → latest (b ++ (e ∷ [])) h v ≡ cond (eqb (e .hazard) h) (e .node) (latest b h v)
 latest-snoc [] e h v = refl
@@ -102,7 +102,8 @@ module _ (d : Domain) (s : Step) (i : Inv d) (hp : s .process < d .params .proce
   -- it keeps its epoch
   pub keep-process : (x : Process) → length (x .hazards) ≡ length (here d s .hazards) → x .epoch ≡ here d s .epoch
       → inEpochs x ≡ inEpochs (here d s) → ProcessOk d x → Inv (setProcess d (s .process) x)
-  keep-process x l e t o = set-process d i (s .process) x hp l (λ u. rw e (near-here (sym t ∙ u))) (λ _ _ _ h. e ∙ h) o
+  keep-process x l e t o = set-process d i (s .process) x hp l (λ u. rw e (near-here (sym t ∙ u))) (λ _ _ _ h. e ∙ h)
+      (stays d i (s .process) t) o
 
   pub assign-keeps : (v : ℕ) → s .hazard < d .params .hazards → Inv (assign d s v)
   assign-keeps v hh =
@@ -142,4 +143,5 @@ tick-ok d i y =
         held = i .processes p .held;
         counts = i .processes p .counts;
       };
+      owners = i .owners;
     }

@@ -4,14 +4,15 @@ use mathlib.Core.Bool.{true, not}
 use mathlib.Core.Path.{_≡_}
 use mathlib.Core.Logic.{_≢_}
 use borrow.Author.Tests.{ltb-true, eqb-false, not-true}
-use lib.ListN.{List·getD-map}
+use lib.ListN.{length, List·getD-map}
 use lib.Dec.{eqb, ltb}
+use Rattle.lists.specs.Tests.{every}
 use Rattle.lists.proofs.Bools.{both}
 use Rattle.model.specs.State.{Domain, freeNode, nodeOf, processOf, isPresent}
 use Rattle.model.specs.Hazards.{unassigned}
-use Rattle.model.specs.Leave.{unburdened, takesOver, handed, handOver}
+use Rattle.model.specs.Leave.{underWay, unburdened, takesOver, handed, handOver}
 
--- what question 22 says of the second process q, and 21 of the leaver's hazards
+-- what question 22 says of the second process q, and 21 of the leaver's hazards and nodes
 pub record Heir (d : Domain) (p q : ℕ) : Type 0 where
   pub below : q < d .params .processes
   pub other : q ≢ p
@@ -25,6 +26,9 @@ heir d p q h =
 
 pub none-assigned : (d : Domain) (p : ℕ) → unburdened d p ≡ true → unassigned (processOf d p) ≡ true
 none-assigned d p h = both (unassigned (processOf d p)) _ h .0
+
+pub none-under-way : (d : Domain) (p : ℕ) → unburdened d p ≡ true → every (λ n. not (underWay p n)) (d .nodes) ≡ true
+none-under-way d p h = both (eqb (length (processOf d p .buffer)) 0) _ (both (unassigned (processOf d p)) _ h .1) .1
 
 -- each node, handed over or as it was
 pub handed-at : (d : Domain) (p q c : ℕ)

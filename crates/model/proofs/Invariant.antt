@@ -1,4 +1,4 @@
--- The invariant: what holds of every domain that is reached, said of values only. Its five clauses are (E), (B), (T), (H) and (G).
+-- The invariant: what holds of every domain that is reached, said of values only. Its six clauses are (E), (B), (T), (H), (G) and (O).
 -- Assumes nothing.
 use Prim.Native.Nat.{ℕ, suc, _+_, _<_, _≤_}
 use mathlib.Core.Bool.{Bool, true}
@@ -8,8 +8,8 @@ use mathlib.Core.Logic.{_≢_}
 use lib.ListN.{length, getD}
 use Rattle.lists.specs.Tests.{All}
 use Rattle.model.specs.Params.{delay}
-use Rattle.model.specs.State.{Pending, Hazard, Process, Node, Domain, Reachable, Retired, emptyHazard}
-use Rattle.model.specs.State.{noProcess, freeNode, processOf, hazardOf, inEpochs, nextEpoch}
+use Rattle.model.specs.State.{Pending, Hazard, Process, Node, Domain, Free, Reachable, Retired, emptyHazard}
+use Rattle.model.specs.State.{noProcess, freeNode, nodeOf, processOf, hazardOf, isPresent, inEpochs, nextEpoch}
 use Rattle.model.specs.Hazards.{latest}
 
 -- N processes of K hazards each, and M nodes
@@ -68,11 +68,20 @@ ProcessWith d x b =
 abbrev pub ProcessOk : Domain → Process → Type 0
 ProcessOk d x = ProcessWith d x (x .buffer)
 
+-- a node that has an owner: Allocated, Removed or Retired
+abbrev pub Owned : Node → Type 0
+Owned n = (n .state ≢ Free) × (n .state ≢ Reachable) × (n .state ≤ Retired)
+
+-- 6 (O), of every node: its owner is present, if it has one
+abbrev pub OwnerPresent : List Process → Node → Type 0
+OwnerPresent ps n = Owned n → isPresent (getD ps (n .owner) noProcess) ≡ true
+
 pub record Inv (d : Domain) : Type 0 where
   pub shape : Shaped d
   pub epoch : d .epoch < 3
   pub near : (p : ℕ) → p < length (d .processes) → inEpochs (processOf d p) ≡ true → Near (d .epoch) (processOf d p .epoch)
   pub processes : (p : ℕ) → ProcessOk d (processOf d p)
+  pub owners : (c : ℕ) → OwnerPresent (d .processes) (nodeOf d c)
 
 -- process p has hazard h validated with node n
 pub record Claim (d : Domain) (p h n : ℕ) : Type 0 where

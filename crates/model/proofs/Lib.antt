@@ -24,4 +24,10 @@ pub mod Bound
 pub mod Demand3
 pub mod Why
 pub mod Portions
+pub mod Distance
+pub mod Nearing
+pub mod NearingManage
+pub mod NearingSteps
+pub mod Rounds
+pub mod RoundsAtTheEdge
 pub mod Theorems

@@ -19,7 +19,7 @@ use Rattle.model.specs.Epochs.{calledBy, counted, manage}
 use Rattle.model.specs.Machine.{act, allocating, step, stepAs, fresh}
 use Rattle.model.proofs.Walk.{Asked, acting, by-step, by-reclaim, by-manage}
 use Rattle.model.proofs.Handed.{heir}
-use Rattle.model.proofs.Invariant.{Near, ProcessOk, Inv}
+use Rattle.model.proofs.Invariant.{Near, ProcessOk, OwnerPresent, Inv}
 use Rattle.model.proofs.Updates.{set-node, with-path, clear-presence}
 use Rattle.model.proofs.Buffer.{hazards-here, keep-process, assign-keeps, validate-ok, drain-ok}
 use Rattle.model.proofs.Buffer.{flush-ok, tick-ok}
@@ -61,15 +61,15 @@ keep-as : (k : Kind) (d : Domain) (s : Step) → Inv d → Inv (stepAs k d s .af
 keep-as k d s i = by-step k d s (λ o. Inv (o .after)) (λ _ _. i) (kept k)
   where
     kept : (j : Kind) → Asked j d s → Inv (act j d s .after)
-    kept Allocate a = set-node d i (s .node) (allocating s) λ p h k o. absurd (omega (arith, a .state 0 refl))
-    kept Publish a = set-node d i (s .node) _ λ p h k o. absurd (omega (arith, a .state 1 refl))
+    kept Allocate a = set-node d i (s .node) (allocating s) (λ _. acting Allocate d s a refl refl) λ p h k o. absurd (omega (arith, a .state 0 refl))
+    kept Publish a = set-node d i (s .node) _ (λ o. absurd (o .1 refl)) λ p h k o. absurd (omega (arith, a .state 1 refl))
     kept Protect a = assign-keeps d s i (a .process refl) _ (a .hazard refl)
     kept Check a = keep-process d s i (a .process refl) (validating (here d s) (s .hazard)) (simp length-set) refl refl
         (validate-ok (i .processes (s .process)) (acting Check d s a refl refl) (s .hazard) (pointer d s .assigned - 1)
         (rw (hazards-here d s i (a .process refl)) (a .hazard refl)) (omega (arith, a .assigned refl)) (a .reachable refl))
     kept Use a = i
     kept Clear a = assign-keeps d s i (a .process refl) 0 (a .hazard refl)
-    kept Remove a = set-node d i (s .node) _ λ p h k o. record { published = omega arith; limbo = λ e. absurd (omega arith) }
+    kept Remove a = set-node d i (s .node) _ (λ _. acting Remove d s a refl refl) λ p h k o. record { published = omega arith; limbo = λ e. absurd (omega arith) }
     kept Retire a = reclaim-ok (marked d s) (marked-ok d s i (a .process refl) (acting Retire d s a refl refl) (a .owner refl)) (s .process)
     kept Drain a =
         let r = drain-ok d (here d s) (here d s .buffer) refl (i .processes (s .process)) in
@@ -80,7 +80,7 @@ keep-as k d s i = by-step k d s (λ o. Inv (o .after)) (λ _ _. i) (kept k)
     kept Tick a = tick-ok d i (a .young' refl)
     kept Manage a = manage-ok d s i (a .process refl) (a .unassigned' refl)
     kept ClearPresence a = clear-presence d i
-    kept Reinsert a = set-node d i (s .node) _ λ p h k o. record { published = omega arith; limbo = λ e. absurd (omega arith) }
+    kept Reinsert a = set-node d i (s .node) _ (λ o. absurd (o .1 refl)) λ p h k o. record { published = omega arith; limbo = λ e. absurd (omega arith) }
     kept Leave a = leave-ok d i (s .process) (s .node) (a .process refl) (a .unburdened' refl) (heir d (s .process) (s .node) (a .takesOver' refl))
     kept Join a = join-ok d i (s .process) (a .process refl) (a .present refl)
     kept Portion a = partial-ok d i (s .process) (s .node) _
@@ -103,6 +103,7 @@ invariant-fresh a =
       near = λ p h _. replicate-at (λ x. Near 0 (x .epoch)) (a .processes) idle noProcess p (omega arith) (omega arith);
       processes = λ p. replicate-at (ProcessOk (fresh a)) (a .processes) idle noProcess p
           (bare idle refl visible validated) (bare noProcess refl (λ h. refl) (λ h. refl));
+      owners = λ c. replicate-at (OwnerPresent (fresh a .processes)) (a .nodes) freeNode freeNode c (λ o. absurd (o .0 refl)) (λ o. absurd (o .0 refl));
     }
   where
     idle : Process

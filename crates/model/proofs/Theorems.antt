@@ -1,9 +1,10 @@
--- Each claim of specs/Claims.antt, with its proof. Assumes nothing.
+-- Each claim of specs/Claims.antt and specs/Rounds.antt, with its proof. Assumes nothing.
 use Rattle.model.specs.Claims.{RefusedUnchanged, UnreadFields, FreshWellFormed, StepWellFormed, PanelStep}
 use Rattle.model.specs.Claims.{Panel}
 use Rattle.model.specs.Claims.{RemoveTakenBack, FreedAreCounted, Demand3, LatenessIsDelay, LatenessInBound}
 use Rattle.model.specs.Claims.{NoLateness, WhyIsExact, PortionIsStep, PortionIsExact, PortionsAreScan}
 use Rattle.model.specs.Claims.{PortionsEnd}
+use Rattle.model.specs.Rounds.{SevenRounds, SevenRoundsOfOwner, SixRounds}
 use Rattle.model.proofs.Unread as Unread
 use Rattle.model.proofs.WellFormed as WellFormed
 use Rattle.model.proofs.Panel as Counted
@@ -13,6 +14,7 @@ use Rattle.model.proofs.Lateness as Lateness
 use Rattle.model.proofs.Demand3 as Follow
 use Rattle.model.proofs.Why as Waiting
 use Rattle.model.proofs.Portions as Portions
+use Rattle.model.proofs.Rounds as Rounds
 
 pub refused-unchanged : RefusedUnchanged
 refused-unchanged = Unread.refused-unchanged
@@ -64,3 +66,12 @@ portions-are-scan = Portions.portions-are-scan
 
 pub portions-end : PortionsEnd
 portions-end = Portions.portions-end
+
+pub seven-rounds : SevenRounds
+seven-rounds = Rounds.seven-rounds
+
+pub seven-rounds-of-owner : SevenRoundsOfOwner
+seven-rounds-of-owner = Rounds.seven-rounds-of-owner
+
+pub six-rounds : SixRounds
+six-rounds = Rounds.six-rounds

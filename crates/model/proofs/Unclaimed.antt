@@ -16,7 +16,7 @@ use Rattle.lists.proofs.Facts.{all-map, every-at, every-in, every-append, insid
 use Rattle.lists.proofs.Pigeonhole.{lacks-at}
 use Rattle.model.specs.Params.{delay}
 use Rattle.model.specs.State.{Pending, Hazard, Process, Node, Domain, Step, emptyHazard, noProcess, nodeOf}
-use Rattle.model.specs.State.{processOf, hazardOf, withEpoch, inEpochs, nextEpoch}
+use Rattle.model.specs.State.{processOf, hazardOf, withEpoch, isPresent, inEpochs, nextEpoch}
 use Rattle.model.specs.Hazards.{here, latest, unassigned}
 use Rattle.model.specs.Retire.{retiredBy, ownFrom, visibleIn, visibleFrom, visibleTo, aged, due, within, dueIn}
 use Rattle.model.specs.Retire.{freeing, partialScan, scan, retiring, marked}
@@ -24,7 +24,7 @@ use Rattle.model.specs.Epochs.{expired, caughtUp, quiescent}
 use Rattle.model.proofs.Walk.{by-quiescent}
 use Rattle.model.proofs.Freeing.{retired-by}
 use Rattle.model.proofs.Invariant.{hazardIn, Timely, epochIn, Inv, Claim, HeldBy}
-use Rattle.model.proofs.Updates.{held-by, set-node, sweep-nodes, set-process}
+use Rattle.model.proofs.Updates.{held-by, set-node, sweep-nodes, set-process, stays}
 
 -- ---- what a scanning process sees: the two laws that a scan and the bound go by
 
@@ -140,6 +140,7 @@ module _ (d : Domain) (i : Inv d) where
             };
           };
         };
+        owners = i .owners;
       }
     where
       -- only a process that is there has claims
@@ -147,16 +148,16 @@ module _ (d : Domain) (i : Inv d) where
       there p h = inside (λ x. hazardOf x h .validated ≡ 1) (d .processes) p noProcess (λ e. omega arith)
 
       at : (p : ℕ) → p < length (d .processes) → inEpochs (processOf d p) ≡ true → processOf d p .epoch ≡ d .epoch
-      at p k c = eqb-true _ _ (implied _ _ (every-in _ (d .processes) p noProcess u k) c)
+      at p k c = let t = implied _ _ (every-in _ (d .processes) p noProcess u k) c in omega (arith, i .epoch, eqb-true)
 
   pub quiescent-ok : (p : ℕ) → p < d .params .processes → unassigned (processOf d p) ≡ true → Inv (quiescent d p .after)
   quiescent-ok p hp u =
       by-quiescent (λ f. Inv (f .after)) d p
       (λ _. advance-ok)
       (λ _ _. i)
-      (λ ne. set-process (freeing d (expired d p) .after)
-      (sweep-nodes d i (expired d p) (λ q h c. expired-unclaimed p q h c ne))
-      p _ hp refl (λ _. (i .epoch, omega (arith, i .epoch))) (λ _ _ _ _. refl)
+      (λ ne. let j = sweep-nodes d i (expired d p) (λ q h c. expired-unclaimed p q h c ne) in
+      set-process (freeing d (expired d p) .after) j p _ hp refl
+      (λ _. (i .epoch, omega (arith, i .epoch))) (λ _ _ _ _. refl) (stays (freeing d (expired d p) .after) j p refl)
       (record {
         arrives = i .processes p .arrives;
         timely = i .processes p .timely;
@@ -184,4 +185,5 @@ pub marked-ok : (d : Domain) (s : Step) → Inv d → s .process < d .params .pr
     → nodeOf d (s .node) .owner ≡ s .process → Inv (marked d s)
 marked-ok d s i hp ht ho =
     set-node d i (s .node) (retiring (d .clock) (here d s .epoch) (nodeOf d (s .node)))
+    (λ _. ap (λ p. isPresent (processOf d p)) ho ∙ ht)
     (λ p h _ _. retired-now d i (s .process) hp ht (nodeOf d (s .node)) ho p h)

@@ -12,6 +12,8 @@ pub mod Machine
 pub mod Why
 pub mod Reference
 pub mod Claims
+pub mod Rounds
+pub mod RoundCases
 pub mod Cases
 pub mod Edge
 pub mod Mistakes

@@ -1,14 +1,14 @@
--- Forty plausible mistakes, each as a machine that is wrong in one place; the schedules that tell them from the rules stand in
+-- Forty-three plausible mistakes, each as a machine that is wrong in one place; the schedules that tell them from the rules stand in
 -- ToldApart.antt. Assumes nothing.
 use Prim.Native.Nat.{ℕ, suc, _+_, _-_, min}
 use mathlib.Core.Bool.{Bool, true, not, _&&_, _||_, cond}
 use mathlib.Core.List.{List, [], _∷_, _++_, map}
 use lib.Dec.{leb, ltb, eqb}
-use Rattle.lists.specs.Tests.{every, count, lacks}
-use Rattle.model.specs.Params.{Params, delay}
+use Rattle.lists.specs.Tests.{every, implies, count, lacks}
+use Rattle.model.specs.Params.{Params, paramsOf, delay}
 use Rattle.model.specs.State.{Pending, Hazard, Process, Node, Domain, Step, Reachable, Removed, Retired, Fast}
 use Rattle.model.specs.State.{Fallback, nodeOf, processOf, setNode, withNodes, withPath, withStores, setProcess}
-use Rattle.model.specs.State.{withEpoch, withPresent, isPresent, nextEpoch}
+use Rattle.model.specs.State.{withEpoch, withParams, withPresent, isPresent, nextEpoch}
 use Rattle.model.specs.Kinds.{Kind, is, kindOf, Protect, Check, Clear, Retire, Tick, Manage, Reinsert, Leave}
 use Rattle.model.specs.Kinds.{Join, Portion}
 use Rattle.model.specs.Hazards.{here, target}
@@ -69,15 +69,19 @@ abbrev pub noStoreOnFastPath : Domain → Step → Outcome
 noStoreOnFastPath =
     doing (λ k d s. cond ((is k Protect || is k Clear) && eqb (d .path) Fast) (noStore d s (act k d s)) (act k d s))
 
--- a manage that adopts the global epoch, with the next limbo list freed
-abbrev pub otherLimbo : Domain → Step → Effect → Effect
-otherLimbo d s e =
+-- a manage that adopts the global epoch, with limbo list l freed
+abbrev pub otherLimbo : ℕ → Domain → Step → Effect → Effect
+otherLimbo l d s e =
     cond (eqb (processOf (e .after) (s .process) .epoch) (here d s .epoch)) e
-    (freeing (withNodes (e .after) (d .nodes)) (λ c n. retiredBy (s .process) n && eqb (n .limbo) (nextEpoch (d .epoch))))
+    (freeing (withNodes (e .after) (d .nodes)) (λ c n. retiredBy (s .process) n && eqb (n .limbo) l))
+
+-- list l of the global epoch is freed where it should be that epoch's
+abbrev pub freesLimbo : (ℕ → ℕ) → Domain → Step → Outcome
+freesLimbo l = doing (λ k d s. cond (is k Manage) (otherLimbo (l (d .epoch)) d s (act k d s)) (act k d s))
 
 -- a limbo list is freed two epochs on, not three
 abbrev pub freesTwoEpochsOn : Domain → Step → Outcome
-freesTwoEpochsOn = doing (λ k d s. cond (is k Manage) (otherLimbo d s (act k d s)) (act k d s))
+freesTwoEpochsOn = freesLimbo nextEpoch
 
 -- a scan frees from the current limbo list only
 abbrev pub scansCurrentListOnly : Domain → Step → Outcome
@@ -309,3 +313,28 @@ portionOfMore = asking 23 Portion (λ d s. leb 1 (s .guest))
 -- a portion may start past the last node
 abbrev pub portionPastLast : Domain → Step → Outcome
 portionPastLast = asking 7 Portion (λ d s. true)
+
+-- ---- three, in the epochs. By two of them nodes are freed too late or never, to which demand 3 does not object
+
+-- the global epoch goes on only where all have come to the epoch after it
+abbrev pub advanceWaits : Domain → Step → Outcome
+advanceWaits =
+    manageUnless (λ d x. implies (isPresent x) (eqb (x .epoch) (nextEpoch (d .epoch))))
+    (λ d s e. effect (e .value) (withEpoch (e .after) (d .epoch)))
+
+-- the limbo list of the epoch before is freed
+abbrev pub freesListBefore : Domain → Step → Outcome
+freesListBefore = freesLimbo (λ g. nextEpoch (nextEpoch g))
+
+abbrev pub oneCallMore : Params → Params
+oneCallMore a =
+    paramsOf (a .processes) (a .hazards) (a .nodes) (a .visibilityBound) (a .quiescenceThreshold + 1) (a .fallbackThreshold) (a .lateness)
+
+-- only each (Q + 1)-th manage acts
+abbrev pub countsPastQ : Domain → Step → Outcome
+countsPastQ =
+    doing (λ k d s.
+    cond (is k Manage)
+    (effect (act k (withParams d (oneCallMore (d .params))) s .value)
+    (withParams (act k (withParams d (oneCallMore (d .params))) s .after) (d .params)))
+    (act k d s))

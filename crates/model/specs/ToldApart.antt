@@ -1,4 +1,4 @@
--- A closed schedule for each of the forty mistakes, on which it answers otherwise than the rules or leaves another number in the domain. Both
+-- A closed schedule for each of the forty-three mistakes, on which it answers otherwise than the rules or leaves another number in the domain. Both
 -- lists are written by hand. Assumes nothing.
 use Prim.Native.Nat.{ℕ}
 use mathlib.Core.List.{List, [], _∷_, _++_, map}
@@ -22,7 +22,7 @@ use Rattle.model.specs.Mistakes.{waitsForEpoch, waitsForPresence, absent
 use Rattle.model.specs.Mistakes.{tickNotLate, lateTwice, portionFreesYoung, portionUnseen, portionOwnUnknown}
 use Rattle.model.specs.Mistakes.{portionTakesOthers, portionOfNodes, portionUnlimited, portionFromZero}
 use Rattle.model.specs.Mistakes.{portionOfNone}
-use Rattle.model.specs.Mistakes.{portionOfMore, portionPastLast}
+use Rattle.model.specs.Mistakes.{portionOfMore, portionPastLast, advanceWaits, freesListBefore, countsPastQ}
 
 pub record Mistake : Type 0 where
   pub machine : Domain → Step → Outcome
@@ -193,6 +193,13 @@ mistakes =
     ∷ mistake portionOfMore (params 1 1 1 1 1 2) (portion 0 0 256 ∷ portion 0 0 257 ∷ []) (gives 0 ∷ refuses 23 ∷ []) (oks 2)
     -- node 1 is the last
     ∷ mistake portionPastLast (params 1 1 2 1 1 2) (portion 0 1 1 ∷ portion 0 2 1 ∷ []) (gives 0 ∷ refuses 7 ∷ []) (oks 2)
+    -- the epochs do not go round
+    ∷ mistake advanceWaits (params 1 1 1 1 1 2) (turnover 0 0 70 ++ replicate 6 (manage 0)) (oks 9 ++ gives 1 ∷ []) (oks 10)
+    -- process 0 comes to epoch 1 and frees list 0, with node 0 that process 1 has validated
+    ∷ mistake freesListBefore (params 2 1 1 1 1 2) (claimed ++ manage 0 ∷ manage 0 ∷ [] ++ reused)
+    (oks 8 ++ kept) (oks 7 ++ gives 1 ∷ [] ++ freed)
+    -- Q = 1, and three of six manages act
+    ∷ mistake countsPastQ (params 1 1 1 1 1 2) (turnover 0 0 70 ++ replicate 6 (manage 0)) (oks 9 ++ gives 1 ∷ []) (oks 10)
     ∷ []
 
 -- ---- what is claimed of a mistake

@@ -7,6 +7,7 @@ pub mod Demand3OnWords
 pub mod RefusedForStores
 pub mod LatenessOnWords
 pub mod PortionsOnWords
+pub mod RoundsOnWords
 pub mod Theorems
 pub mod Excluded
 pub mod Checked

@@ -8,10 +8,10 @@ use native.Mathlib.Omega.{arith}
 use lib.ListN.{length}
 use lib.Dec.{eqb}
 use borrow.Author.Tests.{eqb-true, eqb-false}
-use Rattle.lists.specs.Tests.{every}
+use Rattle.lists.specs.Tests.{every, count}
 use Rattle.lists.proofs.Bools.{by-cond}
 use Rattle.model.specs.Params.{Params, bufferSize, wordCount}
-use Rattle.model.specs.State.{Domain, Step}
+use Rattle.model.specs.State.{Domain, Step, isPresent}
 use Rattle.model.specs.WellFormed.{WellFormed}
 use Rattle.model.specs.Kinds.{kindOf}
 use Rattle.model.specs.Hazards.{here, young}
@@ -22,6 +22,7 @@ use Rattle.model.specs.Retire.{Effect}
 use Rattle.model.specs.Machine.{Outcome, answered, act, step, run, fresh}
 use Rattle.model.specs.Reference.{initial}
 use Rattle.model.specs.Claims.{raises, lowers, noHistory, turnedFree, freedCount, reachableCount}
+use Rattle.model.specs.Rounds.{machine, Transition, comesOrGoes, ownerLeaves, FreedInRounds}
 use Rattle.model.proofs.Theorems as Model
 use Rattle.model.proofs.Freed.{none-turned}
 use Rattle.layout.specs.Encode.{encode, decode}
@@ -42,12 +43,14 @@ use Rattle.qsense.specs.Demands.{short, Refuses, Declines, Tells, Demand
 use Rattle.qsense.specs.Demands.{Demand2, RemoveTakenBackWords, FreedAreCountedWords, RefusedForStores}
 use Rattle.qsense.specs.Demands.{PortionIsStepWords, PortionIsExactWords, PortionsAreScanWords}
 use Rattle.qsense.specs.Demands.{PortionsEndWords}
-use Rattle.qsense.specs.Demands.{LatenessIsDelayWords, Demand3Words}
+use Rattle.qsense.specs.Demands.{LatenessIsDelayWords, Demand3Words, calling, SevenRoundsWords}
+use Rattle.qsense.specs.Demands.{SevenRoundsOfOwnerWords, SixRoundsWords}
 use Rattle.qsense.specs.Demands.{acceptedIn, outcomeOf, FollowsWords}
 use Rattle.qsense.proofs.ModelOnWords.{step-through, run-through, run-well-formed, counted, panel-through}
 use Rattle.qsense.proofs.ModelOnWords.{accepted-through}
 use Rattle.qsense.proofs.Made.{made}
 use Rattle.qsense.proofs.Demand3OnWords.{follows-words}
+use Rattle.qsense.proofs.RoundsOnWords.{freed-through}
 use Rattle.qsense.proofs.RefusedForStores.{full, old}
 use Rattle.qsense.proofs.LatenessOnWords as Lateness
 use Rattle.qsense.proofs.PortionsOnWords as Portions
@@ -228,3 +231,30 @@ demand-3 ws a ss ok =
     let q = initial (a .processes) (a .hazards) (a .nodes) in
     subst (λ (w : List ℕ). FollowsWords a q w noHistory ss) (sym (m .words))
     (follows-words a ss q noHistory (Model.fresh-well-formed a (m .range)) (Model.demand-3 a ss))
+
+-- ---- freed within seven rounds
+
+-- the words that a run leaves are those of the domain that it comes to
+run-left : (ws : List ℕ) (a : Params) (ss : List Step) → makeWords ws a .refusal ≡ 0 → runWords (makeWords ws a .words) ss ≡ encode (run (fresh a) ss)
+run-left ws a ss ok =
+    let m = made ws a ok in
+    ap (λ (w : List ℕ). runWords w ss) (m .words) ∙ run-through ss (Model.fresh-well-formed a (m .range))
+
+run-formed : (ws : List ℕ) (a : Params) (ss : List Step) → makeWords ws a .refusal ≡ 0 → WellFormed (run (fresh a) ss)
+run-formed ws a ss ok = run-well-formed ss (Model.fresh-well-formed a (made ws a ok .range))
+
+in-rounds : (barred : ℕ → Transition → Bool) (n : ℕ) (ws : List ℕ) (a : Params) (ss : List Step) → makeWords ws a .refusal ≡ 0
+    → FreedInRounds (machine step) barred n (run (fresh a) ss) → FreedInRounds calling barred n (runWords (makeWords ws a .words) ss)
+in-rounds barred n ws a ss ok x =
+    subst (λ (w : List ℕ). FreedInRounds calling barred n w) (sym (run-left ws a ss ok)) (freed-through barred n (run-formed ws a ss ok) x)
+
+pub seven-rounds : SevenRoundsWords
+seven-rounds ws a ss ok = in-rounds (λ _. comesOrGoes) _ ws a ss ok (Model.seven-rounds a ss (made ws a ok .range))
+
+pub seven-rounds-of-owner : SevenRoundsOfOwnerWords
+seven-rounds-of-owner ws a ss ok = in-rounds ownerLeaves _ ws a ss ok (Model.seven-rounds-of-owner a ss (made ws a ok .range))
+
+pub six-rounds : SixRoundsWords
+six-rounds ws a ss ok one =
+    in-rounds ownerLeaves _ ws a ss ok (Model.six-rounds a ss (made ws a ok .range)
+    (subst (λ (d : Domain). count isPresent (d .processes) ≤ 1) (decoded (run-left ws a ss ok) (run-formed ws a ss ok)) one))

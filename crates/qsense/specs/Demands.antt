@@ -7,9 +7,9 @@ use mathlib.Core.Path.{_≡_}
 use mathlib.Core.Logic.{_≢_}
 use lib.ListN.{length, set}
 use lib.Dec.{leb, eqb}
-use Rattle.lists.specs.Tests.{every, All}
+use Rattle.lists.specs.Tests.{every, count, All}
 use Rattle.model.specs.Params.{Params, mostTicks, delay, bufferSize, wordCount}
-use Rattle.model.specs.State.{Domain, Step, processOf}
+use Rattle.model.specs.State.{Domain, Step, processOf, isPresent}
 use Rattle.model.specs.Kinds.{kindOf}
 use Rattle.model.specs.Hazards.{here, young}
 use Rattle.model.specs.Questions.{Question, ask, firstNo, nodeInRange, questions}
@@ -21,6 +21,7 @@ use Rattle.model.specs.Reference.{Reference, initial, freeEach}
 use Rattle.model.specs.Claims.{raises, lowers, acceptedAs, TakenBack, turnedFree, freedCount, Matches, Bounded}
 use Rattle.model.specs.Claims.{History, noHistory, recorded}
 use Rattle.model.specs.Claims.{led, Exact, ExactPortion}
+use Rattle.model.specs.Rounds.{Runner, comesOrGoes, ownerLeaves, FreedInRounds}
 use Rattle.layout.specs.Shape.{word}
 use Rattle.layout.specs.Codecs.{visibilityWord, latenessWord}
 use Rattle.layout.specs.Encode.{encode, decode, paramsIn}
@@ -216,3 +217,27 @@ abbrev pub Demand3Words : Type 0
 Demand3Words =
     (ws : List ℕ) (a : Params) (ss : List Step) → makeWords ws a .refusal ≡ 0
     → FollowsWords a (initial (a .processes) (a .hazards) (a .nodes)) (makeWords ws a .words) noHistory ss
+
+-- ---- Freed within seven rounds: the model's claim, with the step call for the rules
+
+-- steps by calls; the words hold a domain
+abbrev pub calling : Runner (List ℕ)
+calling = record { holds = decode; refusal = λ ws s. stepWords ws s .refusal; after = λ ws s. stepWords ws s .words }
+
+abbrev pub SevenRoundsWords : Type 0
+SevenRoundsWords =
+    (ws : List ℕ) (a : Params) (ss : List Step) → makeWords ws a .refusal ≡ 0
+    → FreedInRounds calling (λ _. comesOrGoes) 7 (runWords (makeWords ws a .words) ss)
+
+-- more than the paper asks: it is enough that the node's owner does not leave
+abbrev pub SevenRoundsOfOwnerWords : Type 0
+SevenRoundsOfOwnerWords =
+    (ws : List ℕ) (a : Params) (ss : List Step) → makeWords ws a .refusal ≡ 0
+    → FreedInRounds calling ownerLeaves 7 (runWords (makeWords ws a .words) ss)
+
+-- and six where no more than one process is present
+abbrev pub SixRoundsWords : Type 0
+SixRoundsWords =
+    (ws : List ℕ) (a : Params) (ss : List Step) → makeWords ws a .refusal ≡ 0
+    → count isPresent (decode (runWords (makeWords ws a .words) ss) .processes) ≤ 1
+    → FreedInRounds calling ownerLeaves 6 (runWords (makeWords ws a .words) ss)
