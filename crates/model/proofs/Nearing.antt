@@ -64,13 +64,18 @@ pub record Moved (c : ℕ) (k : Kind) (d : Domain) (s : Step) (o : Outcome) : Ty
 pub kept-refl : (c : ℕ) (d : Domain) → Kept c d d
 kept-refl c d = record { node = refl; params = refl; nearer = omega arith; same = λ _ p h. h }
 
+-- what comes no closer by two lists of steps comes no closer by either
+pub same-both : {c : ℕ} {d e f : Domain} → Kept c d e → Kept c e f → distance f c ≡ distance d c
+    → (distance e c ≡ distance d c) × (distance f c ≡ distance e c)
+same-both k l z = (omega (arith, k .nearer, l .nearer), omega (arith, k .nearer, l .nearer))
+
 pub kept-trans : {c : ℕ} {d e f : Domain} → Kept c d e → Kept c e f → Kept c d f
 kept-trans k l =
     record {
       node = l .node ∙ k .node;
       params = l .params ∙ k .params;
       nearer = omega (arith, k .nearer, l .nearer);
-      same = λ q p h. l .same (omega (arith, k .nearer, l .nearer)) p (k .same (omega (arith, k .nearer, l .nearer)) p h);
+      same = λ z p h. let y = same-both k l z in l .same (y .1) p (k .same (y .0) p h);
     }
 
 -- ---- steps that leave the epochs and the counts alone

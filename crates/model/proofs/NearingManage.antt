@@ -55,6 +55,7 @@ module _ (c : ℕ) (d : Domain) (s : Step) (i : Inv d) (w : WellFormed d) (retir
   abbrev m : Domain
   m = counted d s 0 1
 
+  -- by O
   owner-there : inEpochs (processOf d o) ≡ true
   owner-there = i .owners c (omega arith)
 
@@ -177,8 +178,8 @@ module _ (c : ℕ) (d : Domain) (s : Step) (i : Inv d) (w : WellFormed d) (retir
       v : ℕ
       v = here d s .presence
 
-      far : distance (counted d s (calledBy d s) (here d s .presence)) c ≡ distance d c
-      far = rw (words-epoch (calledBy d s) (here d s .presence) o)
+      far : distance (counted d s k v) c ≡ distance d c
+      far = rw (words-epoch k v o)
 
   pub managed : d .path ≡ Fast → nodeOf (act Manage d s .after) c .state ≢ Free → Moved c Manage d s (accepted (act Manage d s))
   managed fast =

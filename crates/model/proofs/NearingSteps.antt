@@ -41,7 +41,7 @@ module _ (c : ℕ) (d : Domain) (s : Step) (i : Inv d) (w : WellFormed d) (retir
   writes : (k : Kind) (x : Process) → is k Manage ≡ false → is k Leave ≡ false → Same x (here d s) → Moved c k d s (accepted (effect 0 (setProcess d (s .process) x)))
   writes k x m l h = still c k d s 0 _ m l refl refl refl (same-set d (s .process) x h)
 
-  -- a joiner comes to the global epoch; it was absent, so it owns nothing
+  -- a joiner comes to the global epoch; it was absent, so by O it owns nothing
   joins : Asked Join d s → Moved c Join d s (accepted (act Join d s))
   joins a =
       rests c Join d s 0 _ refl refl refl refl refl

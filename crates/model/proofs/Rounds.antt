@@ -20,28 +20,29 @@ use Rattle.model.specs.State.{Domain, Step, Free, Retired, Fast, noProce
 use Rattle.model.specs.WellFormed.{WellFormed}
 use Rattle.model.specs.Kinds.{kindOf, Manage, Leave}
 use Rattle.model.specs.Machine.{step, run, fresh}
-use Rattle.model.specs.Rounds.{machine, Transition, transitions, ended, Stretch, stretches, manages, isRound}
-use Rattle.model.specs.Rounds.{isFast, ownerLeaves, always, never, turnsFree, FreedInRounds}
-use Rattle.model.specs.Rounds.{SevenRounds, SevenRoundsOfOwner}
-use Rattle.model.specs.Rounds.{SixRounds}
-use Rattle.model.specs.Rounds.{leaves, isPresentIn}
-use Rattle.model.proofs.Nearing.{isLeft, Counted}
+use Rattle.model.specs.Rounds.{machine, Transition, transitions, ended, Stretch, stretches, manages, leaves}
+use Rattle.model.specs.Rounds.{isPresentIn, isRound, isFast, ownerLeaves, always, never, turnsFree}
+use Rattle.model.specs.Rounds.{FreedInRounds, SevenRounds, SevenRoundsOfOwner, SixRounds}
 use Rattle.model.proofs.KindNumbers.{same-kind}
 use Rattle.model.proofs.Invariant.{Inv}
 use Rattle.model.proofs.Preserved.{invariant-step, invariant-fresh}
 use Rattle.model.proofs.WellFormed.{process-fits, well-formed-step, well-formed-fresh}
 use Rattle.model.proofs.Distance.{distance, distance-most, distance-three, distance-none}
-use Rattle.model.proofs.Nearing.{AtGlobal, callsOf, Kept, Acted, turn, Moved, kept-refl, kept-trans}
+use Rattle.model.proofs.Nearing.{AtGlobal, callsOf, Kept, Acted, turn, isLeft, Counted, Moved, kept-refl}
+use Rattle.model.proofs.Nearing.{same-both, kept-trans}
 use Rattle.model.proofs.NearingSteps.{moved}
 
-pub record Reached (d : Domain) : Type 0 where
-  pub inv : Inv d
-  pub formed : WellFormed d
+-- what is known of a domain that is reached
+record Reached (d : Domain) : Type 0 where
+  inv : Inv d
+  formed : WellFormed d
+
+reached-step : (d : Domain) (s : Step) → Reached d → Reached (step d s .after)
+reached-step d s r = record { inv = invariant-step d s (r .inv); formed = well-formed-step d s (r .formed) }
 
 reached-run : (ss : List Step) (d : Domain) → Reached d → Reached (run d ss)
 reached-run [] d r = r
-reached-run (s ∷ ss) d r =
-    reached-run ss (step d s .after) (record { inv = invariant-step d s (r .inv); formed = well-formed-step d s (r .formed) })
+reached-run (s ∷ ss) d r = reached-run ss (step d s .after) (reached-step d s r)
 
 reached : (a : Params) (ss : List Step) → InRange a → Reached (run (fresh a) ss)
 reached a ss h = reached-run ss (fresh a) (record { inv = invariant-fresh a; formed = well-formed-fresh a h })
@@ -93,7 +94,7 @@ module _ (c : ℕ) where
     then' : Waits (step d s .after)
     then' =
         record {
-          reached' = record { inv = invariant-step d s (w .reached' .inv); formed = well-formed-step d s (w .reached' .formed) };
+          reached' = reached-step d s (w .reached');
           retired = ap (λ n. n .state) (first .kept .node) ∙ w .retired;
         }
 
@@ -105,7 +106,7 @@ module _ (c : ℕ) where
   waits-run [] d w h = w
   waits-run (s ∷ ss) d w h = waits-run ss (step d s .after) (then' d s ss w h) (calm-rest _ _ h)
 
-  -- a process with its Q manages acts
+  -- a process that leaves in them, or has its Q manages, has acted
   acted-run : (ss : List Step) (d : Domain) → Waits d → Calm (taken d ss) → (p : ℕ) → p < d .params .processes
       → (every (λ t. not (leaves p t)) (taken d ss) ≡ true → d .params .quiescenceThreshold ≤ callsOf d p + count (manages p) (taken d ss))
       → Acted c d (ended (machine step) d ss) p
@@ -116,9 +117,6 @@ module _ (c : ℕ) where
       by (m .acts p) (m .kept) (kept-run ss e (then' d s ss w h) (calm-rest _ _ h))
       (λ x. acted-run ss e (then' d s ss w h) (calm-rest _ _ h) p (rw (m .kept .params) hp) (λ v. rw (m .kept .params) (x v)))
     where
-      d' : Domain
-      d' = step d s .after
-
       same-turn : turn p (kindOf (s .kind)) s (step d s .refusal) ≡ cond (eqb (step d s .refusal) 0 && (eqb (s .kind) 12 && eqb (s .process) p)) 1 0
       same-turn = ap (λ b. cond (eqb (step d s .refusal) 0 && (b && eqb (s .process) p)) 1 0) (sym (same-kind (s .kind) Manage refl))
 
@@ -134,17 +132,19 @@ module _ (c : ℕ) where
       by (inl x) k k' f =
           let a = f (λ v. omega (arith, same-turn, x .calls, q (rw (sym same-left ∙ x .stays) v))) in
           record {
-            comes = λ z. a .comes (omega (arith, k .nearer, k' .nearer));
-            goesOn = λ o all z. a .goesOn (o ∙ sym (ap (λ n. n .owner) (k .node))) (λ u. k .same (omega (arith, k .nearer, k' .nearer)) u (all u)) (omega (arith, k .nearer, k' .nearer));
+            comes = λ z. a .comes (same-both k k' z .1);
+            goesOn = λ o all z. let y = same-both k k' z in
+                a .goesOn (o ∙ sym (ap (λ n. n .owner) (k .node))) (λ u. k .same (y .0) u (all u)) (y .1);
           }
       by (inr a) k k' f =
           record {
-            comes = λ z. k' .same (omega (arith, k .nearer, k' .nearer)) p (a .comes (omega (arith, k .nearer, k' .nearer)));
-            goesOn = λ o all z. a .goesOn o all (omega (arith, k .nearer, k' .nearer));
+            comes = λ z. let y = same-both k k' z in k' .same (y .1) p (a .comes (y .0));
+            goesOn = λ o all z. a .goesOn o all (same-both k k' z .0);
           }
 
   -- ---- rounds
 
+  -- by O
   owner-there : (d : Domain) → Waits d → isPresent (processOf d (nodeOf d c .owner)) ≡ true
   owner-there d w = w .reached' .inv .owners c (omega (arith, w .retired))
 
@@ -171,7 +171,8 @@ module _ (c : ℕ) where
 
     acted : (p : ℕ) → isPresent (processOf d p) ≡ true → Acted c d e p
     acted p u =
-        let hp : p < d .params .processes = rw (← (w .reached' .formed .processCount)) (inside (λ x. isPresent x ≡ true) (d .processes) p noProcess false≢true u) in
+        let there = inside (λ x. isPresent x ≡ true) (d .processes) p noProcess false≢true u in
+        let hp : p < d .params .processes = rw (← (w .reached' .formed .processCount)) there in
         acted-run ss d w h p hp (λ v. omega (arith, enough-of p hp (rw u v)))
 
     -- whoever is absent need not come

@@ -1,5 +1,5 @@
 -- What is promised of the rules: demands 2 and 3, well-formedness, refusals, fields that are not read, what E is, why a node waits, and a scan
--- in portions.
+-- in portions; that what is Retired is freed within seven rounds stands in Rounds.antt.
 -- Statements only; the theorems of these types stand in proofs/Theorems.antt. Assumes nothing.
 use Prim.Native.Nat.{ℕ, suc, _+_, _-_, _*_, _<_, _≤_, max}
 use mathlib.Core.Path.{_≡_}

@@ -120,8 +120,9 @@ roundCases =
     -- at least Q: it is 2, process 0 has two manages a round and process 1 has one
     ∷ inRounds (params 2 1 1 1 2 2) (replicate 4 (manage 0) ++ turnover 0 0 70) (replicate 7 (manage 0 ∷ manage 0 ∷ manage 1 ∷ []))
     (waitingUnless false true true)
-    -- others may come and go: process 1 joins in the second round; it leaves in the third, without its manage, and is back in the fifth
+    -- others may join: process 1 does in the second round
     ∷ inRounds two (leave 1 0 ∷ turnover 0 0 70) ((manage 0 ∷ []) ∷ (manage 0 ∷ join 1 ∷ []) ∷ replicate 5 (both 0 1)) freedAllTheSame
+    -- and leave: process 1 does in the third, without its manage, and is back in the fifth
     ∷ inRounds two apart
     (both 0 1 ∷ both 1 0 ∷ (manage 0 ∷ leave 1 0 ∷ []) ∷ (manage 0 ∷ []) ∷ (join 1 ∷ manage 0 ∷ []) ∷ both 0 1 ∷ both 1 0 ∷ [])
     freedAllTheSame
