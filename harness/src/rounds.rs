@@ -201,8 +201,8 @@ impl Display for Tally {
     fn fmt(&self, f: &mut Formatter) -> std::fmt::Result {
         write!(f, "freed by round:")?;
         for company in Company::ALL.into_iter().filter(|&company| self.longest(company) > 0) {
-            write!(f, " {company:?} {:?}", self.by_round(company))?;
+            write!(f, " {company:?} {:?}, longest {};", self.by_round(company), self.longest(company))?;
         }
-        write!(f, "; {} handed over, {} stretches ended by the path", self.ended_by_owner, self.ended_by_path)
+        write!(f, " {} handed over, {} stretches ended by the path", self.ended_by_owner, self.ended_by_path)
     }
 }

@@ -8,10 +8,10 @@ use lib.ListN.{replicate}
 use Rattle.lists.specs.Tests.{every}
 use Rattle.model.specs.Params.{Params}
 use Rattle.model.specs.State.{Domain, Step, Free, Allocated, Retired, nodeOf}
-use Rattle.model.specs.Machine.{Outcome, step, fresh}
+use Rattle.model.specs.Machine.{Outcome, step, run, fresh}
 use Rattle.model.specs.Rounds.{machine, ended, Stretch, stretches, isRound, isFast, comesOrGoes, ownerLeaves}
 use Rattle.model.specs.Rounds.{always, never}
-use Rattle.model.specs.Rounds.{isFreed}
+use Rattle.model.specs.Rounds.{isFreed, FreedInRounds}
 use Rattle.model.specs.Cases.{allocate, manage, clearPresence, leave, join, turnover, params}
 use Rattle.model.specs.Mistakes.{advanceWaits, countsPastQ}
 
@@ -94,7 +94,10 @@ roundsBy f a ss rs t = record { by = f; params = a; before = ss; rounds = rs; to
 abbrev pub inRounds : Params → List Step → List (List Step) → Told → RoundCase
 inRounds = roundsBy step
 
--- N = 2, Q = 1, and C is not reached
+-- N = 1 and N = 2; Q = 1, and C is not reached
+abbrev pub one : Params
+one = params 1 1 1 1 1 2
+
 abbrev pub two : Params
 two = params 2 1 1 1 1 2
 
@@ -106,8 +109,8 @@ roundCases =
     -- it may have been taken again since
     ∷ inRounds two apart (slow ++ (manage 0 ∷ allocate 0 0 80 ∷ manage 1 ∷ []) ∷ []) (freedAs Allocated)
     -- with one process five leave it, and the sixth frees it
-    ∷ inRounds (params 1 1 1 1 1 2) (turnover 0 0 70) (replicate 5 (manage 0 ∷ [])) waiting
-    ∷ inRounds (params 1 1 1 1 1 2) (turnover 0 0 70) (replicate 6 (manage 0 ∷ [])) (freedAs Free)
+    ∷ inRounds one (turnover 0 0 70) (replicate 5 (manage 0 ∷ [])) waiting
+    ∷ inRounds one (turnover 0 0 70) (replicate 6 (manage 0 ∷ [])) (freedAs Free)
     -- and so with two of which one is absent
     ∷ inRounds two (leave 1 0 ∷ turnover 0 0 70) (replicate 5 (manage 0 ∷ [])) waiting
     ∷ inRounds two (leave 1 0 ∷ turnover 0 0 70) (replicate 6 (manage 0 ∷ [])) (freedAs Free)
@@ -133,3 +136,11 @@ roundCases =
     ∷ roundsBy countsPastQ two (turnover 0 0 70) (replicate 7 (both 0 1)) waiting
     ∷ inRounds two (turnover 0 0 70) (replicate 7 (both 0 1)) (freedAs Free)
     ∷ []
+
+-- ---- so the claim with fewer rounds is false, and so it is of those two wrong rules
+
+pub record TooFew : Type 0 where
+  pub six : FreedInRounds (machine step) (λ _. comesOrGoes) 6 (run (fresh two) apart) → ⊥
+  pub fiveAlone : FreedInRounds (machine step) (λ _. comesOrGoes) 5 (run (fresh one) (turnover 0 0 70)) → ⊥
+  pub advanceWaits' : FreedInRounds (machine advanceWaits) (λ _. comesOrGoes) 7 (run (fresh two) (turnover 0 0 70)) → ⊥
+  pub countsPastQ' : FreedInRounds (machine countsPastQ) (λ _. comesOrGoes) 7 (run (fresh two) (turnover 0 0 70)) → ⊥
