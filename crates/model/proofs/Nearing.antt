@@ -14,13 +14,12 @@ use Rattle.lists.specs.Sweep.{sweepFrom}
 use Rattle.lists.proofs.Stores.{set-keeps}
 use Rattle.lists.proofs.Sweeps.{sweep-at, sweep-is}
 use Rattle.model.specs.State.{Pending, Process, Node, Domain, Step, Free, Retired, noProcess, freeNode}
-use Rattle.model.specs.State.{nodeOf, processOf, setProcess, inEpochs}
-use Rattle.model.specs.State.{withoutPresence, clearPresence}
-use Rattle.model.specs.Kinds.{Kind, is}
-use Rattle.model.specs.Kinds.{Manage, Leave}
+use Rattle.model.specs.State.{nodeOf, processOf, setProcess, inEpochs, withoutPresence, clearPresence}
+use Rattle.model.specs.Kinds.{Kind, is, Manage, Leave}
 use Rattle.model.specs.Hazards.{committing, drained, flushed}
 use Rattle.model.specs.Retire.{effect}
 use Rattle.model.specs.Machine.{Outcome, accepted, refused}
+use Rattle.model.proofs.Invariant.{Inv}
 use Rattle.model.proofs.Distance.{distance}
 
 -- process p has come to the global epoch, if it is present
@@ -29,6 +28,10 @@ AtGlobal d p = inEpochs (processOf d p) ≡ true → processOf d p .epoch ≡ d 
 
 abbrev pub callsOf : Domain → ℕ → ℕ
 callsOf d p = processOf d p .calls
+
+-- by O
+pub owner-there : (d : Domain) → Inv d → (c : ℕ) → nodeOf d c .state ≡ Retired → inEpochs (processOf d (nodeOf d c .owner)) ≡ true
+owner-there d i c r = i .owners c (omega arith)
 
 -- what steps keep while node c stays Retired: where it comes no closer, whoever had come to the global epoch still has
 pub record Kept (c : ℕ) (d d' : Domain) : Type 0 where

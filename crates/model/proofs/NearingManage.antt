@@ -25,7 +25,8 @@ use Rattle.model.proofs.Walk.{Asked, acting, by-quiescent, by-manage}
 use Rattle.model.proofs.Invariant.{Inv}
 use Rattle.model.proofs.WellFormed.{node-fits, process-fits}
 use Rattle.model.proofs.Distance.{distanceOf, distance, distance-away, distance-closer}
-use Rattle.model.proofs.Nearing.{AtGlobal, callsOf, Counted, Acted, turn, Moved, kept-by-sweep, passed-over}
+use Rattle.model.proofs.Nearing.{AtGlobal, callsOf, owner-there, Counted, Acted, turn, Moved, kept-by-sweep}
+use Rattle.model.proofs.Nearing.{passed-over}
 use Rattle.model.proofs.Nearing.{by-process}
 
 -- a call that does not act is counted
@@ -54,10 +55,6 @@ module _ (c : ℕ) (d : Domain) (s : Step) (i : Inv d) (w : WellFormed d) (retir
 
   abbrev m : Domain
   m = counted d s 0 1
-
-  -- by O
-  owner-there : inEpochs (processOf d o) ≡ true
-  owner-there = i .owners c (omega arith)
 
   limbo-small : l < 3
   limbo-small =
@@ -104,7 +101,7 @@ module _ (c : ℕ) (d : Domain) (s : Step) (i : Inv d) (w : WellFormed d) (retir
       }
     where
       part : inEpochs (processOf m o) ≡ true
-      part = words-part 0 1 o ∙ owner-there
+      part = words-part 0 1 o ∙ owner-there d i c retired
 
       at : processOf m o .epoch ≡ g
       at =

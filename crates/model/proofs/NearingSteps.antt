@@ -24,7 +24,8 @@ use Rattle.model.proofs.Handed.{handed-at}
 use Rattle.model.proofs.Freeing.{retired-by}
 use Rattle.model.proofs.Invariant.{Inv}
 use Rattle.model.proofs.Distance.{distance}
-use Rattle.model.proofs.Nearing.{AtGlobal, callsOf, Counted, Acted, Moved, Same, same-refl, same-set}
+use Rattle.model.proofs.Nearing.{AtGlobal, callsOf, owner-there, Counted, Acted, Moved, Same, same-refl}
+use Rattle.model.proofs.Nearing.{same-set}
 use Rattle.model.proofs.Nearing.{same-drained, same-flushed, same-absent, rests, still, still-refused}
 use Rattle.model.proofs.Nearing.{other-node, kept-by-sweep, by-process}
 use Rattle.model.proofs.NearingManage.{managed}
@@ -47,7 +48,7 @@ module _ (c : ℕ) (d : Domain) (s : Step) (i : Inv d) (w : WellFormed d) (retir
       rests c Join d s 0 _ refl refl refl refl refl
       (λ q. set-keeps (λ y. y .calls ≡ callsOf d q) (d .processes) (s .process) q _ noProcess (λ e _. rw e) refl)
       (ap (λ x. x .epoch) (getD-set-other (d .processes) (s .process) (nodeOf d c .owner) _ noProcess
-      (λ e. absurd (omega (arith, a .present refl, eqb-true (here d s .present) 1 (ap (λ q. inEpochs (processOf d q)) (sym e) ∙ i .owners c (omega arith)))))))
+      (λ e. absurd (omega (arith, a .present refl, eqb-true (here d s .present) 1 (ap (λ q. inEpochs (processOf d q)) (sym e) ∙ owner-there d i c retired))))))
       (λ q h. set-keeps (λ y. inEpochs y ≡ true → y .epoch ≡ d .epoch) (d .processes) (s .process) q _ noProcess (λ _ _ _. refl) h)
 
   retires : Asked Retire d s → nodeOf (act Retire d s .after) c .state ≢ Free → Moved c Retire d s (accepted (act Retire d s))

@@ -28,7 +28,8 @@ use Rattle.model.proofs.Invariant.{Inv}
 use Rattle.model.proofs.Preserved.{invariant-step, invariant-fresh}
 use Rattle.model.proofs.WellFormed.{process-fits, well-formed-step, well-formed-fresh}
 use Rattle.model.proofs.Distance.{distance, distance-most, distance-three, distance-none}
-use Rattle.model.proofs.Nearing.{AtGlobal, callsOf, Kept, Acted, turn, isLeft, Counted, Moved, kept-refl}
+use Rattle.model.proofs.Nearing.{AtGlobal, callsOf, owner-there, Kept, Acted, turn, isLeft, Counted, Moved}
+use Rattle.model.proofs.Nearing.{kept-refl}
 use Rattle.model.proofs.Nearing.{same-both, kept-trans}
 use Rattle.model.proofs.NearingSteps.{moved}
 
@@ -144,13 +145,12 @@ module _ (c : ℕ) where
 
   -- ---- rounds
 
-  -- by O
-  owner-there : (d : Domain) → Waits d → isPresent (processOf d (nodeOf d c .owner)) ≡ true
-  owner-there d w = w .reached' .inv .owners c (omega (arith, w .retired))
+  owner-in : (d : Domain) → Waits d → isPresent (processOf d (nodeOf d c .owner)) ≡ true
+  owner-in d w = owner-there d (w .reached' .inv) c (w .retired)
 
   -- where all have come to the global epoch, it has to go on
   not-yet : (d : Domain) → Waits d → ((p : ℕ) → AtGlobal d p) → distance d c ≢ 0
-  not-yet d w all z = distance-none (d .epoch) _ (nodeOf d c .limbo) z (all (nodeOf d c .owner) (owner-there d w))
+  not-yet d w all z = distance-none (d .epoch) _ (nodeOf d c .limbo) z (all (nodeOf d c .owner) (owner-in d w))
 
   -- how many rounds a node may still need
   abbrev Enough : ℕ → Domain → Type 0
@@ -188,7 +188,7 @@ module _ (c : ℕ) where
       where
         by : (b : Bool) → eqb (distance e c) (distance d c) ≡ b → Enough (suc n) d → Enough n e
         by true z (inl x) = let q = eqb-true (distance e c) (distance d c) z in inr (come q, omega arith)
-        by true z (inr a) = absurd (acted (nodeOf d c .owner) (owner-there d w) .goesOn refl (a .0) (eqb-true (distance e c) (distance d c) z))
+        by true z (inr a) = absurd (acted (nodeOf d c .owner) (owner-in d w) .goesOn refl (a .0) (eqb-true (distance e c) (distance d c) z))
         by false z (inl x) = let q = eqb-false (distance e c) (distance d c) z in inl (omega (arith, kept .nearer))
         by false z (inr a) = let q = eqb-false (distance e c) (distance d c) z in inl (omega (arith, kept .nearer, a .1))
 
@@ -257,7 +257,7 @@ enough-alone c n d h one w = by (eqb (distance d c) 3) refl
 
     all-there : distance d c ≡ 3 → (p : ℕ) → AtGlobal d p
     all-there far p u =
-        ap (λ q. processOf d q .epoch) (count-one isPresent (d .processes) p o noProcess refl one u (owner-there c d w))
+        ap (λ q. processOf d q .epoch) (count-one isPresent (d .processes) p o noProcess refl one u (owner-in c d w))
         ∙ distance-three (d .epoch) (processOf d o .epoch) (nodeOf d c .limbo) far
 
     by : (b : Bool) → eqb (distance d c) 3 ≡ b → Enough c n d

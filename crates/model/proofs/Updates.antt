@@ -10,8 +10,7 @@ use Rattle.lists.proofs.Stores.{set-cases, set-keeps}
 use Rattle.lists.proofs.Sweeps.{sweep-at, sweep-length}
 use Rattle.model.specs.State.{Pending, Hazard, Process, Node, Domain, Retired, noProcess, freeNode, nodeOf}
 use Rattle.model.specs.State.{processOf, withNodes, withPath, setNode, setProcess, isPresent, inEpochs}
-use Rattle.model.specs.State.{withoutPresence}
-use Rattle.model.specs.State.{clearPresence}
+use Rattle.model.specs.State.{withoutPresence, clearPresence}
 use Rattle.model.proofs.Invariant.{Inv, ProcessInv, ProcessOk, Claim, Held, HeldBy, Near, epochIn, Owned}
 use Rattle.model.proofs.Invariant.{OwnerPresent, hazardIn}
 

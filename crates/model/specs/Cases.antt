@@ -46,11 +46,6 @@ abbrev pub answersBy : (Domain → Step → Outcome) → Domain → List Step �
 answersBy f d [] = []
 answersBy f d (s ∷ ss) = record { refusal = f d s .refusal; value = f d s .value } ∷ answersBy f (f d s .after) ss
 
--- and the domain that it leaves
-abbrev pub runBy : (Domain → Step → Outcome) → Domain → List Step → Domain
-runBy f d [] = d
-runBy f d (s ∷ ss) = runBy f (f d s .after) ss
-
 -- ---- steps: kind, process, hazard, node, guest; fields that are not read are 0
 
 abbrev pub stepOf : ℕ → ℕ → ℕ → ℕ → ℕ → Step

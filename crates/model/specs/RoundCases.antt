@@ -10,8 +10,7 @@ use Rattle.model.specs.Params.{Params}
 use Rattle.model.specs.State.{Domain, Step, Free, Allocated, Retired, nodeOf}
 use Rattle.model.specs.Machine.{Outcome, step, run, fresh}
 use Rattle.model.specs.Rounds.{machine, ended, Stretch, stretches, isRound, isFast, comesOrGoes, ownerLeaves}
-use Rattle.model.specs.Rounds.{always, never}
-use Rattle.model.specs.Rounds.{isFreed, FreedInRounds}
+use Rattle.model.specs.Rounds.{always, never, isFreed, FreedInRounds}
 use Rattle.model.specs.Cases.{allocate, manage, clearPresence, leave, join, turnover, params}
 use Rattle.model.specs.Mistakes.{advanceWaits, countsPastQ}
 

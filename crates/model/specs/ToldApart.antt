@@ -6,11 +6,11 @@ use mathlib.Core.Path.{_≡_}
 use mathlib.Core.Logic.{_≢_}
 use lib.ListN.{replicate}
 use Rattle.model.specs.Params.{Params, paramsOf}
-use Rattle.model.specs.State.{Domain, Step}
-use Rattle.model.specs.State.{nodeOf}
+use Rattle.model.specs.State.{Domain, Step, nodeOf}
 use Rattle.model.specs.Machine.{Outcome, step, fresh}
 use Rattle.model.specs.Claims.{reachableCount}
-use Rattle.model.specs.Cases.{Answer, gives, refuses, oks, answersBy, runBy, allocate, publish, protect, check}
+use Rattle.model.specs.Rounds.{machine, ended}
+use Rattle.model.specs.Cases.{Answer, gives, refuses, oks, answersBy, allocate, publish, protect, check}
 use Rattle.model.specs.Cases.{use', clear, remove, retire, flush, tick, manage, reinsert, leave, join, portion}
 use Rattle.model.specs.Cases.{turnover, shownToAll, stopAndBack, params, stray}
 use Rattle.model.specs.Mistakes.{freesAtAgeT, noStoreOnFastPath, freesTwoEpochsOn, scansCurrentListOnly}
@@ -206,7 +206,7 @@ mistakes =
 
 -- what machine f shows of the schedule: its answers, and what is then read off the domain
 abbrev pub shownBy : (Domain → Step → Outcome) → Mistake → List Answer
-shownBy f m = answersBy f (m .start) (m .steps) ++ map gives (m .looks (runBy f (m .start) (m .steps)))
+shownBy f m = answersBy f (m .start) (m .steps) ++ map gives (m .looks (ended (machine f) (m .start) (m .steps)))
 
 -- the rules and the machine show what was foretold, and not the same
 abbrev pub ToldApart : Mistake → Type 0
