@@ -3,7 +3,7 @@
 use Prim.Native.Nat.{ℕ, zero, suc, ◌+◌, ◌-◌, ◌≤◌}
 use mathlib.Core.Bool.{Bool, true, false, ◌&&◌, cond}
 use mathlib.Core.List.{List, [], ◌∷◌}
-use mathlib.Core.Path.{◌≡◌, refl, sym, ap}
+use mathlib.Core.Path.{◌≡◌, refl, sym, ap, subst}
 use native.Mathlib.Omega.{arith}
 use native.Mathlib.Nat.{suc-add, add-suc, add-zero, zero-add}
 use borrow.Author.Tests.{le-leb, lt-leb, lt-ltb, le-ltb, ltb-true, ltb-false}
@@ -102,13 +102,19 @@ module _ {A : Type 0} (f : A → Bool) where
   count-front a zero i l h = count_past (λ _ x. f x) a (i + 0) i l (omega arith)
   count-front a (suc k) i [] h = refl
   count-front a (suc k) i (x ∷ xs) h =
-      rw (le-leb a i h, lt-ltb i (i + suc k) (omega arith), add-suc i k, ← suc-add i k) (ap (λ n. cond (f x) 1 0 + n) (count-front a k (suc i) xs (omega arith)))
+      let e : suc i + k ≡ i + suc k = omega arith in
+      let rest =
+        subst (λ n. count_from (λ c y. between a n c && f y) (suc i) xs ≡ count f (take k xs)) e (count-front a k (suc i) xs (omega arith)) in
+      rw (le-leb a i h, lt-ltb i (i + suc k) (omega arith)) (ap (λ n. cond (f x) 1 0 + n) rest)
 
   count-later : (n k i : ℕ) (l : List A) → count_from (λ c x. between (i + n) (i + n + k) c && f x) i l ≡ count f (take k (drop n l))
   count-later zero k i l = rw (add-zero i) (count-front i k i l (omega arith))
   count-later (suc n) k i [] = sym (ap (count f) (take-nil k))
   count-later (suc n) k i (x ∷ xs) =
-      rw (lt-leb (i + suc n) i (omega arith), add-suc i n, ← suc-add i n) (rw zero-add (count-later n k (suc i) xs))
+      let e : suc i + n ≡ i + suc n = omega arith in
+      let rest =
+        subst (λ m. count_from (λ c y. between m (m + k) c && f y) (suc i) xs ≡ count f (take k (drop n xs))) e (count-later n k (suc i) xs) in
+      rw (lt-leb (i + suc n) i (omega arith), zero-add) rest
 
   -- from place a up to place b
   pub count-between : (a b : ℕ) (l : List A) → a ≤ b → count_from (λ c x. between a b c && f x) 0 l ≡ count f (take (b - a) (drop a l))
