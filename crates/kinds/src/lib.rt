@@ -1,5 +1,7 @@
 // The table of kinds: for each what its process, hazard, node and guest fields are to it, the state that its node
 // needs, and whether the process must own that node.
+#![tactic(auto)]
+
 ghost use Rattle.std.specs.Prelude.{◌≡◌, not};
 ghost use Rattle.model.specs.Kinds.{kind_of, is, Unknown};
 ghost use Rattle.kinds.specs.Table.{row_code, guest_code};

@@ -1,5 +1,7 @@
 // The calls: make a domain, how many words it takes, a step, a list of steps, a portion of a scan, the reachable count, and why a node is
 // still waiting. Each takes any words and any numbers.
+#![tactic(auto)]
+
 mod runs;
 pub mod two_passes;
 

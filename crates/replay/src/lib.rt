@@ -1,4 +1,6 @@
 // The running of a trace (the paper's step book) on words of its own: each step's line is put into the print as the step is taken.
+#![tactic(auto)]
+
 pub mod end;
 pub mod most;
 

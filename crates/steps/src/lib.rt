@@ -1,6 +1,8 @@
 // A step on words that are known to be sound: one dispatch over the kind, in each arm the questions with that kind as a literal, of which
 // only its own are left, and then what it does. The answer is one number, the refusal its low word and the value its high one: two fields
 // would come back through memory.
+#![tactic(auto)]
+
 mod attendance;
 mod domain_kinds;
 mod node_kinds;

@@ -1,5 +1,7 @@
 // A process's own stretch of the words, lent as a slice of exactly its words, so that no function here can write another's: the lead, the
 // hazards, and the places of pending stores (module `buffer`).
+#![tactic(auto)]
+
 pub mod buffer;
 pub mod view;
 

@@ -1,4 +1,6 @@
 // A trace (the paper's step book) read from its trailer back, on a slice of bytes and an offset. Any bytes and any offset will do.
+#![tactic(auto)]
+
 pub mod widths;
 
 ghost use Rattle.std.specs.Prelude.{◌≡◌, ◌+◌, ◌<◌, ◌≤◌, length, leb};

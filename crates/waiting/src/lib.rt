@@ -1,4 +1,6 @@
 // Why a node is still waiting, and which process is behind in epochs: asked of sound words, of which nothing is written.
+#![tactic(auto)]
+
 ghost use Rattle.std.specs.Prelude.{◌≡◌, suc, ◌<◌, ◌≤◌};
 ghost use Rattle.model.specs.State.{node_of};
 ghost use Rattle.model.specs.Why.{ticks_left, seen_by, reason_of, behind_in, explained};
