@@ -58,7 +58,7 @@ pub const LIMIT: u8 = 5;
 pub const ANY: u32 = 5;
 
 // What the fields process, hazard, node and guest are, the state needed, and whether the process must own the node.
-#[derive(Drop)]
+#[derive(Clone, Copy)]
 pub struct Row(pub u8, pub u8, pub u8, pub u8, pub u32, pub bool);
 
 // A row a kind, in the order of their numbers.

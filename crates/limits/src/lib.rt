@@ -6,7 +6,7 @@ ghost use Rattle.std.specs.Prelude.{◌≡◌, ◌+◌, ◌≤◌, true, not, �
 ghost use Rattle.limits.specs.Limits.{none, turned, within, in_row};
 
 // Whether a word was over its limit, by the word's place in its piece of four, and whether anything else was amiss.
-#[derive(Drop)]
+#[derive(Clone, Copy)]
 pub struct Faults {
     pub first: bool,
     pub second: bool,

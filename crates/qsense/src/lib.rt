@@ -19,7 +19,7 @@ use layout::{HazardId, NodeId, Params, ProcessId};
 use waiting::Explained;
 
 // refusal: the number of the first question with the answer no, 0 for accepted.
-#[derive(Drop)]
+#[derive(Clone, Copy)]
 pub struct Answer {
     pub refusal: u32,
     pub value: u32,
@@ -27,7 +27,7 @@ pub struct Answer {
 
 // refusal: as of a step; where it is not 0, every other number is 0. freed: nodes freed. examined: the Retired nodes of the process that were
 // met. next: the node to go on from. left: its Retired nodes from there on.
-#[derive(Drop)]
+#[derive(Clone, Copy)]
 pub struct Portioned {
     pub refusal: u32,
     pub freed: u32,

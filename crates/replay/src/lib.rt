@@ -20,7 +20,7 @@ use trace::Header;
 use trace::widths::step_byte;
 
 // Where the next line goes, and the reachable count (the paper's panel).
-#[derive(Drop)]
+#[derive(Clone, Copy)]
 struct Turn {
     at: usize,
     reachable: u32,

@@ -16,7 +16,7 @@ ghost use Rattle.steps.specs.Groups.{OnNode, OnHazard, OnProcess, OnDomain, OnAt
 use layout::{HazardId, NodeId, ProcessId};
 
 // The refusal number, 0 for accepted, and the value.
-#[derive(Drop)]
+#[derive(Clone, Copy)]
 pub struct Answer {
     pub refusal: u32,
     pub value: u32,

@@ -19,7 +19,7 @@ use layout::{Hazard, HazardId, Lead};
 
 // How many hazards a process has; where its stretch starts and ends in the words; and where in the stretch its hazards and its pending
 // stores start.
-#[derive(Drop)]
+#[derive(Clone, Copy)]
 pub struct Place {
     pub k: usize,
     pub from: usize,
