@@ -1,5 +1,7 @@
 // A domain's words: the head and the nodes here, the processes in the modules. Every call speaks of the domain that the words hold, and no
 // caller knows an address.
+#![tactic(auto)]
+
 pub mod process;
 pub mod processes;
 pub mod stores;

@@ -1,5 +1,7 @@
 // Manage (kind 12): calls counted, presence, the switch back to the fast path, and then the quiescent state, in which a process comes to
 // the global epoch or the global epoch moves on.
+#![tactic(auto)]
+
 ghost use Rattle.std.specs.Prelude.{◌<◌};
 ghost use Rattle.model.specs.Kinds.{Manage};
 ghost use Rattle.model.specs.Epochs.{adopt, quiescent, managing};

@@ -1,5 +1,7 @@
 // What the program `why` prints: the line that says why a card is still waiting, by the card's number and the bytes of a step book or of a
 // domain's words.
+#![tactic(auto)]
+
 pub mod number;
 mod reading;
 mod sentence;

@@ -1,5 +1,7 @@
 // The table of kinds: for each what its process, hazard, node and guest fields are to it, the state that its node
 // needs, and whether the process must own that node.
+#![tactic(auto)]
+
 ghost use Rattle.std.specs.Prelude.{◌≡◌, not};
 ghost use Rattle.model.specs.Kinds.{kind_of, is, Unknown};
 ghost use Rattle.kinds.specs.Table.{row_code, guest_code};
@@ -56,7 +58,7 @@ pub const LIMIT: u8 = 5;
 pub const ANY: u32 = 5;
 
 // What the fields process, hazard, node and guest are, the state needed, and whether the process must own the node.
-#[derive(Drop)]
+#[derive(Clone, Copy)]
 pub struct Row(pub u8, pub u8, pub u8, pub u8, pub u32, pub bool);
 
 // A row a kind, in the order of their numbers.

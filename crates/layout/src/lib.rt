@@ -1,5 +1,7 @@
 // The values that travel by value: ids, parameters, and the records that stand in a domain's words; a word as an index, where things
 // stand, and words cleared.
+#![tactic(auto)]
+
 pub mod fresh;
 pub mod words;
 

@@ -1,10 +1,12 @@
 // Words against limits, four at a time and without a branch, so that the compiler makes vectors of it. A limit in a table is kept with its
 // top bit turned, as a vector compares it: it need not be turned again for each word.
+#![tactic(auto)]
+
 ghost use Rattle.std.specs.Prelude.{◌≡◌, ◌+◌, ◌≤◌, true, not, ◌&&◌, length};
 ghost use Rattle.limits.specs.Limits.{none, turned, within, in_row};
 
 // Whether a word was over its limit, by the word's place in its piece of four, and whether anything else was amiss.
-#[derive(Drop)]
+#[derive(Clone, Copy)]
 pub struct Faults {
     pub first: bool,
     pub second: bool,

@@ -1,5 +1,7 @@
 // The nodes' part of a domain's words: a node read and written. Each function takes the words from where the nodes start to the end, and
 // m, the number of nodes. No other crate reads a node's words: `state_of` gives a state, `set_state` sets it, here and in the check.
+#![tactic(auto)]
+
 pub mod counts;
 pub mod fits;
 pub mod handing;

@@ -11,14 +11,14 @@ use layout::words::states;
 use limits::Faults;
 
 // What is known of the nodes gone over so far, and of the words before them.
-#[derive(Drop)]
+#[derive(Clone, Copy)]
 pub struct Known {
     pub faults: Faults,
     pub reachable: u32,
 }
 
 // What a whole pass finds: whether all nodes fit, and the count, which is 0 where one does not.
-#[derive(Drop)]
+#[derive(Clone, Copy)]
 pub struct Found {
     pub fits: bool,
     pub reachable: u32,

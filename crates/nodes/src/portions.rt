@@ -8,7 +8,7 @@ ghost use Rattle.nodes.specs.Portions.{Reached};
 use layout::{NodeId, ProcessId};
 
 // next: the node after the last of them. examined: how many there are.
-#[derive(Drop)]
+#[derive(Clone, Copy)]
 pub struct End {
     pub next: u32,
     pub examined: u32,

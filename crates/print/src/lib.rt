@@ -1,4 +1,6 @@
 // The print of a book, put into a buffer: what the program `desk` writes for any bytes that it reads.
+#![tactic(auto)]
+
 pub mod rooms;
 
 ghost use Rattle.std.specs.Prelude.{◌≡◌, ◌≤◌, length};

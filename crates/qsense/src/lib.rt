@@ -1,5 +1,7 @@
 // The calls: make a domain, how many words it takes, a step, a list of steps, a portion of a scan, the reachable count, and why a node is
 // still waiting. Each takes any words and any numbers.
+#![tactic(auto)]
+
 mod runs;
 pub mod two_passes;
 
@@ -17,7 +19,7 @@ use layout::{HazardId, NodeId, Params, ProcessId};
 use waiting::Explained;
 
 // refusal: the number of the first question with the answer no, 0 for accepted.
-#[derive(Drop)]
+#[derive(Clone, Copy)]
 pub struct Answer {
     pub refusal: u32,
     pub value: u32,
@@ -25,7 +27,7 @@ pub struct Answer {
 
 // refusal: as of a step; where it is not 0, every other number is 0. freed: nodes freed. examined: the Retired nodes of the process that were
 // met. next: the node to go on from. left: its Retired nodes from there on.
-#[derive(Drop)]
+#[derive(Clone, Copy)]
 pub struct Portioned {
     pub refusal: u32,
     pub freed: u32,

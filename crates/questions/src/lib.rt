@@ -1,6 +1,8 @@
 // The questions before a step, numbers 4 to 17 and 20 to 23 in the papers' order: the number of the first with the answer no, 0 where there
 // is none.
 // A question that a kind is not asked has the answer yes and reads nothing, so that with the kind as a literal only its own are left.
+#![tactic(auto)]
+
 pub mod read;
 
 ghost use Rattle.std.specs.Prelude.{[], ◌≡◌, drop};

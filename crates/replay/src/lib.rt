@@ -1,4 +1,6 @@
 // The running of a trace (the paper's step book) on words of its own: each step's line is put into the print as the step is taken.
+#![tactic(auto)]
+
 pub mod end;
 pub mod most;
 
@@ -18,7 +20,7 @@ use trace::Header;
 use trace::widths::step_byte;
 
 // Where the next line goes, and the reachable count (the paper's panel).
-#[derive(Drop)]
+#[derive(Clone, Copy)]
 struct Turn {
     at: usize,
     reachable: u32,

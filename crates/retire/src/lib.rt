@@ -1,4 +1,6 @@
 // Retire (kind 8): a node marked Retired, the switch to the fallback path, and the scan.
+#![tactic(auto)]
+
 mod marks;
 pub mod portion;
 pub mod scan;

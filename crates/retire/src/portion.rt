@@ -9,7 +9,7 @@ use layout::{NodeId, ProcessId};
 
 // freed: nodes freed. examined: the Retired nodes of the process that were met. next: the node to go on from. left: its Retired nodes
 // from there on.
-#[derive(Drop)]
+#[derive(Clone, Copy)]
 pub struct Portion {
     pub freed: u32,
     pub examined: u32,

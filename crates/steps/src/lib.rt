@@ -1,6 +1,8 @@
 // A step on words that are known to be sound: one dispatch over the kind, in each arm the questions with that kind as a literal, of which
 // only its own are left, and then what it does. The answer is one number, the refusal its low word and the value its high one: two fields
 // would come back through memory.
+#![tactic(auto)]
+
 mod attendance;
 mod domain_kinds;
 mod node_kinds;
@@ -14,7 +16,7 @@ ghost use Rattle.steps.specs.Groups.{OnNode, OnHazard, OnProcess, OnDomain, OnAt
 use layout::{HazardId, NodeId, ProcessId};
 
 // The refusal number, 0 for accepted, and the value.
-#[derive(Drop)]
+#[derive(Clone, Copy)]
 pub struct Answer {
     pub refusal: u32,
     pub value: u32,

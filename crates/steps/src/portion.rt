@@ -7,7 +7,7 @@ ghost use Rattle.steps.specs.Portioned.{Portions};
 use layout::{HazardId, NodeId, ProcessId};
 
 // refusal: 0 for accepted; where it is not, every other number is 0.
-#[derive(Drop)]
+#[derive(Clone, Copy)]
 pub struct Portioned {
     pub refusal: u32,
     pub freed: u32,

@@ -1,5 +1,7 @@
 // A process's own stretch of the words, lent as a slice of exactly its words, so that no function here can write another's: the lead, the
 // hazards, and the places of pending stores (module `buffer`).
+#![tactic(auto)]
+
 pub mod buffer;
 pub mod view;
 
@@ -17,7 +19,7 @@ use layout::{Hazard, HazardId, Lead};
 
 // How many hazards a process has; where its stretch starts and ends in the words; and where in the stretch its hazards and its pending
 // stores start.
-#[derive(Drop)]
+#[derive(Clone, Copy)]
 pub struct Place {
     pub k: usize,
     pub from: usize,

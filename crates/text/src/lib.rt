@@ -1,4 +1,6 @@
 // The lines of a book's print as bytes, put one after another into a buffer of the caller: decimal digits, and the four kinds of lines.
+#![tactic(auto)]
+
 ghost use Rattle.std.specs.Prelude.{◌≡◌, ◌+◌, ◌≤◌, ◌<◌, length};
 ghost use Rattle.layout.specs.Values.{params_value};
 ghost use Rattle.text.specs.Text.{digit_count, Put, number_text, number_size, desk_word, end_word, refused_word};

@@ -1,4 +1,6 @@
 // A trace (the paper's step book) read from its trailer back, on a slice of bytes and an offset. Any bytes and any offset will do.
+#![tactic(auto)]
+
 pub mod widths;
 
 ghost use Rattle.std.specs.Prelude.{◌≡◌, ◌+◌, ◌<◌, ◌≤◌, length, leb};
@@ -12,7 +14,7 @@ use layout::Params;
 use widths::{most, params_byte, step_byte, trailer_byte};
 
 // The five numbers of a step. process, hazard and node (the paper's worker, slot and card) are counted from 0.
-#[derive(Drop)]
+#[derive(Clone, Copy)]
 pub struct Step {
     pub kind: u32,
     pub process: u32,
@@ -22,7 +24,7 @@ pub struct Step {
 }
 
 // What stands before the steps: the parameters, how many steps there are, and the offset of the first; each next one is 12 bytes on.
-#[derive(Drop)]
+#[derive(Clone, Copy)]
 pub struct Header {
     pub params: Params,
     pub count: u32,
@@ -30,7 +32,7 @@ pub struct Header {
 }
 
 // What comes of opening a trace.
-#[derive(Drop)]
+#[derive(Clone, Copy)]
 pub enum Opened {
     Found(Header),
     // 18: more than 65,536 bytes.

@@ -1,4 +1,6 @@
 // Why a node is still waiting, and which process is behind in epochs: asked of sound words, of which nothing is written.
+#![tactic(auto)]
+
 ghost use Rattle.std.specs.Prelude.{◌≡◌, suc, ◌<◌, ◌≤◌};
 ghost use Rattle.model.specs.State.{node_of};
 ghost use Rattle.model.specs.Why.{ticks_left, seen_by, reason_of, behind_in, explained};
@@ -11,7 +13,7 @@ use layout::words::{paths, states};
 use layout::{HazardId, Node, NodeId, ProcessId};
 
 // Why a node is still waiting: the first of these that is true.
-#[derive(Drop)]
+#[derive(Clone, Copy)]
 pub enum Reason {
     // Its state.
     NotRetired(u32),
@@ -24,7 +26,7 @@ pub enum Reason {
 }
 
 // The lowest present process whose local epoch differs from the global one.
-#[derive(Drop)]
+#[derive(Clone, Copy)]
 pub enum Behind {
     // On the fallback path.
     NotAsked,
@@ -32,14 +34,14 @@ pub enum Behind {
     Lagging(ProcessId),
 }
 
-#[derive(Drop)]
+#[derive(Clone, Copy)]
 pub struct Why {
     pub reason: Reason,
     pub behind: Behind,
 }
 
 // What a call that asks why answers.
-#[derive(Drop)]
+#[derive(Clone, Copy)]
 pub enum Explained {
     // 3 or 7.
     Refused(u32),

@@ -1,5 +1,7 @@
 // Whether words are those of a well-formed domain, and how many of its nodes are Reachable: the head and the length here, the processes
 // in a module, the nodes in crate `nodes`.
+#![tactic(auto)]
+
 pub mod processes;
 
 ghost use Rattle.std.specs.Prelude.{◌≡◌, ◌≤◌, true, length};

@@ -13,7 +13,7 @@ use layout::words::{hazard_word, head_word, lead_word, most, store_word};
 use limits::Faults;
 
 // What a process's words go by: the last count of calls, the last hazard, the number of nodes, the clock.
-#[derive(Drop)]
+#[derive(Clone, Copy)]
 struct Limits {
     calls: u32,
     hazard: u32,
@@ -22,7 +22,7 @@ struct Limits {
 }
 
 // The limits of one place of a buffer.
-#[derive(Drop)]
+#[derive(Clone, Copy)]
 struct Cuts {
     hazard: u32,
     node: u32,
