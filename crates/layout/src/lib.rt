@@ -14,17 +14,17 @@ ghost use Rattle.layout.specs.Pairs.{word_range, paired, low_in, high_in};
 use words::{hazard_word, head_word, lead_word, most, node_word};
 
 // A process (the paper's worker), a hazard of a process (slot) and a node (card), each counted from 0.
-#[derive(Drop)]
+#[derive(Clone, Copy)]
 pub struct ProcessId(pub u32);
 
-#[derive(Drop)]
+#[derive(Clone, Copy)]
 pub struct HazardId(pub u32);
 
-#[derive(Drop)]
+#[derive(Clone, Copy)]
 pub struct NodeId(pub u32);
 
 // N, K, M, T, Q, C and E.
-#[derive(Drop)]
+#[derive(Clone, Copy)]
 pub struct Params {
     pub processes: u32,
     pub hazards: u32,
@@ -36,7 +36,7 @@ pub struct Params {
 }
 
 // The words of a process before its hazards; stores: how many are pending; present: 1 where it takes part, 0 where it is absent.
-#[derive(Drop)]
+#[derive(Clone, Copy)]
 pub struct Lead {
     pub epoch: u32,
     pub calls: u32,
@@ -45,7 +45,7 @@ pub struct Lead {
     pub present: u32,
 }
 
-#[derive(Drop)]
+#[derive(Clone, Copy)]
 pub struct Hazard {
     pub visible: u32,
     pub assigned: u32,
@@ -53,7 +53,7 @@ pub struct Hazard {
 }
 
 // retired: the clock when it was retired.
-#[derive(Drop)]
+#[derive(Clone, Copy)]
 pub struct Node {
     pub state: u32,
     pub owner: u32,

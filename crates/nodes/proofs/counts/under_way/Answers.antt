@@ -1,0 +1,14 @@
+-- `counts::under_way` meets its contract: the state is the first word of a node, the owner the second. Assumes nothing.
+use mathlib.Core.Bool.{◌&&◌, ◌||◌}
+use lib.Dec.{eqb}
+use Rattle.model.specs.State.{Allocated, Removed}
+use Rattle.nodes.proofs.Words.{word_at}
+use native.Mathlib.Omega.{arith}
+use Rattle.nodes.proofs.counts.under_way.Goals as goal
+
+pub returns : goal.returns
+returns c =
+    let start = c in
+    let owner = word_at start.requires.0 start.requires.1 c.offset-at.ensures.0 1 (omega arith) in
+    let state = c.state_of-state.ensures in
+    λ t. (eqb (state t) Allocated || eqb (state t) Removed) && eqb (owner t) start.args.p.0

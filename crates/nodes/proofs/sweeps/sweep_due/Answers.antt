@@ -1,0 +1,40 @@
+-- `sweeps::sweep_due` meets its contract. The loop has noted those of the nodes before i that are to be freed; the measure is the number
+-- of those left. Assumes nothing.
+use Prim.Native.Nat.{◌-◌}
+use mathlib.Core.Path.{refl}
+use native.Mathlib.Numerals.{add-one}
+use native.Mathlib.Omega.{arith}
+use borrow.Author.Rules.{rules}
+use Rattle.nodes.specs.Part.{node_in}
+use Rattle.nodes.specs.Sweeps.{due_unmarked}
+use Rattle.nodes.proofs.Sweeping.{notes-more, noted, notes-start, notes-rest, between-yes}
+use Rattle.nodes.proofs.sweeps.sweep_due.Goals as goal
+
+pub loop-i-init : goal.loop-i-init
+loop-i-init c =
+    let h = c.requires in
+    let a = c.args in
+    (search rules, notes-start (due_unmarked a.p.0 a.limit a.marks.now) a.from a.to h.0 refl (omega arith))
+
+pub loop-i-preserved : goal.loop-i-preserved
+loop-i-preserved c =
+    let at-loop = c in
+    let a = at-loop.args in
+    let test = due_unmarked a.p.0 a.limit a.marks.now in
+    let inv = at-loop.loop-i.invariant in
+    let below = c.loop-i-test.true in (
+      search rules,
+      rw (add-one, c.note-count.ensures.0, c.note-count.ensures.1)
+          (notes-more inv.1 (omega arith)
+          (between-yes test a.from a.to at-loop.loop-i.i (node_in a.m a.nodes.now at-loop.loop-i.i) inv.0 below c.due-is_due.ensures)),
+    )
+
+pub free_noted-requires : goal.free_noted-requires
+free_noted-requires c = let inv = c.loop-i.invariant in (inv.1.part, noted inv.1)
+
+pub returns : goal.returns
+returns c =
+    let at-loop = c in
+    let a = at-loop.args in
+    notes-rest (due_unmarked a.p.0 a.limit a.marks.now) a.from a.to at-loop.loop-i.invariant.1
+    c.loop-i-test.false c.free_noted.ensures

@@ -1,0 +1,39 @@
+-- `view::overlay` meets its contract. The invariant: the stores from e on make what all make (`Overlaying`). The measure: the stores that are left.
+-- Assumes nothing.
+use Prim.Native.Nat.{◌+◌, ◌-◌, ◌*◌}
+use mathlib.Core.Path.{◌∙◌}
+use lib.ListN.{length-set}
+use Rattle.stretch.proofs.Viewed.{overlay-starts, overlay-turn, overlay-ends}
+use Rattle.stretch.proofs.Stores.{target_at, stored_at, aims}
+use native.Mathlib.Omega.{arith}
+use Rattle.stretch.proofs.view.overlay.Goals as goal
+
+pub loop-e-init : goal.loop-e-init
+loop-e-init c = (omega arith, omega arith, c.requires.1, overlay-starts)
+
+pub bounds-nodes-h : goal.bounds-nodes-h
+bounds-nodes-h c =
+    let start = c in
+    let h = start.requires.0 in
+    let e = c.loop-e.e in
+    let aim = aims _ _ h.words e (omega arith) (start.args.at.stores + 3 * e + 0) (omega (arith, h.stores)) in
+    omega (arith, c.wide-h.ensures.0, aim)
+
+pub loop-e-preserved : goal.loop-e-preserved
+loop-e-preserved c =
+    let start = c in
+    let h = start.requires.0 in
+    let inv = c.loop-e.invariant in
+    let e = c.loop-e.e in
+    let from = start.args.at.stores + 3 * e in
+    let target = c.wide-h.ensures.0 ∙ target_at _ _ h.words e (omega arith) (from + 0) (omega (arith, h.stores)) in
+    let stored = stored_at _ _ h.words e (omega arith) (from + 1) (omega (arith, h.stores)) in
+    (omega arith, inv.1, simp length-set inv.2, overlay-turn inv.3 (omega arith) _ _ target stored)
+
+pub shape_of-nodes : goal.shape_of-nodes
+shape_of-nodes c = omega (arith, c.loop-e.invariant.2, c.requires.1)
+
+pub returns : goal.returns
+returns c =
+    let inv = c.loop-e.invariant in
+    overlay-ends inv.3 (omega arith)
