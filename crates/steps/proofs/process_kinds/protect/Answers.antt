@@ -9,44 +9,36 @@ use Rattle.model.specs.Kinds.{Protect}
 use Rattle.model.specs.Hazards.{assigning}
 use Rattle.layout.specs.Encode.{encode, decode}
 use Rattle.questions.proofs.Accepted.{facts, process_in_lem, hazard_in_lem, node_in_lem}
-use borrow.Author.Rules.{rules}
-use Rattle.steps.proofs.process_kinds.protect.Statement.{statement}
-use Rattle.steps.proofs.process_kinds.protect.Tie as tie
+use Rattle.steps.proofs.process_kinds.protect.Goals as goal
 
 -- the code's sum is the next number
 next-stored : (d : Domain) (p h c : ℕ) {ws : List ℕ} → ws ≡ encode (set_process d p (assigning (process_of d p) h (c + 1) d.clock))
     → ws ≡ encode (set_process d p (assigning (process_of d p) h (suc c) d.clock))
 next-stored d p h c e = e ∙ ap (λ v. encode (set_process d p (assigning (process_of d p) h v d.clock))) (add-one c)
 
-add-assign : tie.Need-overflow-add-assign
-add-assign c =
-    let start = c.before.before.before in
+pub overflow_add-c : goal.overflow_add-c
+overflow_add-c c =
+    let start = c in
     let ws = start.args.words.now in
     let p = start.args.p.0 in
     let h = start.args.h.0 in
     let n = start.args.c.0 in
     omega (arith, node_in_lem Protect ws p h n 0 start.requires refl, start.requires.0.sizes.nodes)
 
-assign-requires : tie.Need-assign-requires
-assign-requires c κs =
-    let start = c.before.before.before in
+pub assign-requires : goal.assign-requires
+assign-requires c =
+    let start = c in
     let ws = start.args.words.now in
     let p = start.args.p.0 in
     let h = start.args.h.0 in
     let n = start.args.c.0 in
-    ((start.requires.0, process_in_lem Protect ws p h n 0 start.requires refl, hazard_in_lem Protect ws p h n 0 start.requires refl), (facts Protect ws p h n 0 start.requires).room refl)
+    record { sound = (start.requires.0, process_in_lem Protect ws p h n 0 start.requires refl, hazard_in_lem Protect ws p h n 0 start.requires refl); p_len_bound = (facts Protect ws p h n 0 start.requires).room refl }
 
-same_length : tie.Need-same-length
-same_length c = search rules
-
-returns : tie.Need-returns
+pub returns : goal.returns
 returns c =
-    let start = c.before.before.before.before.before.before in
+    let start = c in
     let ws = start.args.words.now in
     let p = start.args.p.0 in
     let h = start.args.h.0 in
     let n = start.args.c.0 in
-    (next-stored (decode ws) p h n c.before.before.assign.ensures, refl)
-
-pub protect-spec : {M : Type 1} → statement M
-protect-spec = tie.close (tie.spec add-assign assign-requires same_length returns)
+    (next-stored (decode ws) p h n c.assign.ensures, refl)
