@@ -45,6 +45,7 @@ fn print_short(rt: &(impl Print + Eprint), book: &[u8], n: usize)
 }
 
 // The same of a book of any length.
+#[inline(never)]
 fn print_long(rt: &(impl Print + Eprint), book: &[u8], n: usize)
     requires { (n ≤ length book.now) × (n ≤ most_read) }
 {
@@ -57,7 +58,7 @@ fn print_long(rt: &(impl Print + Eprint), book: &[u8], n: usize)
 }
 
 // Prints the first n bytes. A short book does without the long buffer: the pages of a frame are touched as it is entered, and print_long,
-// which is called twice and writes by itself, is not made a part of main.
+// which writes by itself, is never made a part of main.
 fn print_input(rt: &(impl Print + Eprint), book: &[u8], n: usize)
     requires { (n ≤ length book.now) × (n ≤ most_read) }
 {
