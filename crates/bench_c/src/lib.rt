@@ -2,9 +2,9 @@
 ghost use Rattle.std.specs.Prelude.{◌≡◌};
 ghost use Rattle.layout.specs.Words.{well_formed};
 ghost use Rattle.qsense.specs.Calls.{reachable_words};
-ghost use Rattle.qsense_c.specs.Values.{reply_of};
+ghost use Rattle.answers.specs.Values.{reply_of};
 
-use qsense_c::Answer;
+use answers::Answer;
 
 // Whether the words are those of a well-formed domain.
 #[unsafe(no_mangle)]

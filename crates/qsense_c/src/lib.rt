@@ -8,17 +8,12 @@ ghost use Rattle.qsense.specs.Calls.{make_words, step_words, portion_words, reac
 ghost use Rattle.qsense.specs.Numbers.{told, numbers_of};
 ghost use Rattle.qsense.specs.Runs.{ran_of, run_into};
 ghost use Rattle.domain.specs.Effects.{given};
-ghost use Rattle.qsense_c.specs.Values.{reply_of, portion_reply_of, numbers_in};
+ghost use Rattle.answers.specs.Values.{reply_of};
+ghost use Rattle.qsense_c.specs.Values.{portion_reply_of, numbers_in};
 
+use answers::Answer;
 use layout::{HazardId, NodeId, Params, ProcessId};
 use waiting::{Behind, Explained, Reason};
-
-#[repr(C)]
-#[derive(Drop)]
-pub struct Answer {
-    pub refusal: u32,
-    pub value: u32,
-}
 
 // The words that a domain takes; 0 unless N, K and M are in their ranges.
 #[unsafe(no_mangle)]
