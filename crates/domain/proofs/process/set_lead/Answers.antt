@@ -1,0 +1,15 @@
+-- `process::set_lead` meets its contract: the stretch that comes back holds the process so changed. Assumes nothing.
+use Rattle.domain.proofs.Lent.{lent-stretch, process-returned}
+use Rattle.model.specs.State.{with_words}
+use Rattle.domain.proofs.process.set_lead.Goals as goal
+
+pub set_lead-requires : goal.set_lead-requires
+set_lead-requires c =
+    let h = c.requires in
+    lent-stretch h.0 h.1 c.place_of-at.ensures
+
+pub returns : goal.returns
+returns c =
+    let h = c.requires in
+    let a = c.args in
+    process-returned h.0 h.1 c.place_of-at.ensures (λ x. with_words x a.epoch a.calls a.presence) _ c.set_lead.ensures

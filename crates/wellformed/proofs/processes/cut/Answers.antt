@@ -1,0 +1,11 @@
+-- `processes::cut` meets its contract: the mask is 0 or has every bit set. Assumes nothing.
+use Rattle.wellformed.proofs.ProcessWithin.{cut-is}
+use Rattle.std.proofs.Common.{arith}
+use Rattle.wellformed.proofs.processes.cut.Goals as goal
+
+pub returns : goal.returns
+returns c =
+    let start = c in
+    let a = start.args in
+    cut-is a.limit a.e a.stores _ _ (omega arith) (omega arith) (omega arith) (omega arith) (omega arith)
+    c.wrapping_sub_u32.ensures.value c.wrapping_sub_u32-2.ensures.value
