@@ -3,7 +3,7 @@ use Prim.Native.Nat.{ℕ}
 use mathlib.Core.Bool.{Bool, true, false, not, ◌&&◌, ◌||◌, cond, false≢true}
 use mathlib.Core.Path.{◌≡◌, refl, sym, ◌∙◌, ap}
 use mathlib.Core.Logic.{◌≢◌}
-use borrow.Author.Tests.{eq-eqb, ne_eqb, not-true, not-false}
+use borrow.Author.Tests.{eq-eqb, ne_eqb}
 use lib.Dec.{ltb, eqb}
 use Rattle.lists.specs.Tests.{implies}
 use Rattle.lists.proofs.Bools.{or-implies}
@@ -61,8 +61,8 @@ present-else n z = ap (λ (b : Bool). cond b 0 1) (sym (ne_eqb n (number_of Join
 
 -- ---- the list: b is the code's answer, a the model's, m the first no of the rest
 
-pub yes-then : (n : ℕ) {b a : Bool} {r m : ℕ} → b ≡ a → not b ≡ false → r ≡ m → r ≡ cond a m n
-yes-then n {b} e h q = rw (← e, not-false b h) q
+pub yes-then : (n : ℕ) {b a : Bool} {r m : ℕ} → b ≡ a → b ≡ true → r ≡ m → r ≡ cond a m n
+yes-then n e h q = rw (← e, h) q
 
-pub no-here : (n m : ℕ) {b a : Bool} → b ≡ a → not b ≡ true → n ≡ cond a m n
-no-here n m {b} e h = rw (← e, not-true b h)
+pub no-here : (n m : ℕ) {b a : Bool} → b ≡ a → b ≡ false → n ≡ cond a m n
+no-here n m e h = rw (← e, h)

@@ -1,0 +1,10 @@
+-- `questions::node_in_range` meets its contract: asked where the row says so. Assumes nothing.
+use mathlib.Core.Path.{ap}
+use Rattle.questions.proofs.AskedOf.{in_range_lem}
+use Rattle.questions.proofs.node_in_range.Goals as goal
+
+pub returns : goal.returns
+returns c =
+    let column = ap (λ r. r.2) c.row_of-row.ensures in
+    let bound = ap (λ a. a.nodes) c.bounds.ensures in
+    in_range_lem 3 c.args.c.0 column bound

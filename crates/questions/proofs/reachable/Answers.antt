@@ -1,0 +1,12 @@
+-- `questions::reachable` meets its contract: asked of one kind. Assumes nothing.
+use lib.Dec.{eqb}
+use mathlib.Core.Path.{refl, ap}
+use Rattle.model.specs.Kinds.{Check}
+use Rattle.questions.proofs.AskedOf.{of_others, of-kind}
+use Rattle.questions.proofs.reachable.Goals as goal
+
+pub returns-then-kind-ne-CHECK : goal.returns-then-kind-ne-CHECK
+returns-then-kind-ne-CHECK c = of_others _ Check refl c.if-kind-ne-CHECK.true _
+
+pub returns : goal.returns
+returns c = of-kind _ Check refl c.if-kind-ne-CHECK.false (ap (λ n. eqb n.state 2) c.hazard_node.ensures)
