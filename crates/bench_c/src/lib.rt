@@ -1,4 +1,6 @@
 // What the benchmark links beside the library: the check by itself, and the reachable count in two passes. No part of the library.
+#![tactic(auto)]
+
 ghost use Rattle.std.specs.Prelude.{◌≡◌};
 ghost use Rattle.layout.specs.Words.{well_formed};
 ghost use Rattle.qsense.specs.Calls.{reachable_words};

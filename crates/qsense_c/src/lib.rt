@@ -1,4 +1,6 @@
 // The calls for C and Rust hosts: thin exports over the library. A slice travels as a pointer and a length in words.
+#![tactic(auto)]
+
 ghost use Rattle.std.specs.Prelude.{◌≡◌};
 ghost use Rattle.model.specs.Params.{params_of};
 ghost use Rattle.layout.specs.Ranges.{length_for};
