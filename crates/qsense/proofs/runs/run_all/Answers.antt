@@ -1,0 +1,32 @@
+-- `runs::run_all` meets its contract. The loop's invariant: the words and the answers are on the way (`Going`) to what the whole list
+-- leaves, i steps of it being taken. The measure: the steps that are left. Assumes nothing.
+use Rattle.qsense.proofs.Turns.{going_start, going_on, going_end}
+use mathlib.Core.Path.{◌≡◌, refl}
+use Prim.Native.Nat.{◌-◌}
+use native.Mathlib.Omega.{arith}
+use borrow.Author.Rules.{rules}
+use Rattle.qsense.proofs.runs.run_all.Goals as goal
+
+pub loop-i-init : goal.loop-i-init
+loop-i-init c = (omega arith, refl, going_start _ _ _ _ _ c.well_formed-good.ensures)
+
+pub run_step-requires : goal.run_step-requires
+run_step-requires c =
+    let at-loop = c in
+    let start = at-loop in
+    let going = at-loop.loop-i.invariant.2 in
+    (going.good, (omega (arith, start.requires), omega (arith, going.long, start.requires)))
+
+pub loop-i-preserved : goal.loop-i-preserved
+loop-i-preserved c =
+    let at-run-step = c in
+    let at-loop = at-run-step in
+    let start = at-loop in
+    let going = at-loop.loop-i.invariant.2 in
+    (omega arith, search rules, going_on _ _ _ _ _ _ _ _ _ _ (omega arith) (omega (arith, start.requires)) going at-run-step.run_step.ensures)
+
+pub returns : goal.returns
+returns c =
+    let start = c in
+    let all : c.loop-i.i ≡ start.args.count = omega arith in
+    going_end _ _ _ _ _ _ _ _ all start.requires.1 c.loop-i.invariant.2

@@ -1,0 +1,48 @@
+-- `retire::marks::mark_row` meets its contract: the hazards passed are marked, and the others make all of them. Assumes nothing.
+use Prim.Native.Nat.{◌-◌, ◌≤◌}
+use mathlib.Core.List.{[], ◌∷◌, map}
+use mathlib.Core.Bool.{true}
+use mathlib.Core.Path.{refl, ap, ◌∙◌}
+use lib.ListN.{get_or, set, length-map, get_or-map}
+use Rattle.lists.proofs.Facts.{all-at}
+use Rattle.model.specs.Params.{most_nodes}
+use Rattle.model.specs.State.{empty_hazard}
+use Rattle.layout.specs.Encode.{process_at}
+use Rattle.stretch.proofs.Words.{hazards-length}
+use Rattle.retire.specs.Marks.{marking}
+use Rattle.retire.proofs.MarkedTo.{starts, turn, ends, left-hazards, left-none}
+use native.Mathlib.Omega.{arith}
+use Rattle.retire.proofs.marks.mark_row.Goals as goal
+
+pub loop-at-init : goal.loop-at-init
+loop-at-init c = (omega arith, refl, starts)
+
+pub mark-requires : goal.mark-requires
+mark-requires c =
+    let at-loop = c in
+    let start = at-loop in
+    let h = at-loop.loop-at.h in
+    let at = start.args.at in
+    let vs = map (λ y. y.visible) (process_at at.k start.args.row.now).hazards in
+    let few = hazards-length at.k start.args.row.now in
+    let e = ap (λ y. y.visible) c.hazard-hazard.ensures in
+    let shown = get_or-map (λ y. y.visible) (process_at at.k start.args.row.now).hazards h empty_hazard in
+    omega (arith, e, shown, all-at (λ v. v ≤ most_nodes) vs h 0 start.requires.1 (simp length-map (omega (arith, few))))
+
+pub loop-at-preserved : goal.loop-at-preserved
+unfolding marking
+loop-at-preserved c =
+    let a = c.args in
+    let hs = (process_at a.at.k a.row.now).hazards in
+    let inv = c.loop-at.invariant in
+    let few = hazards-length a.at.k a.row.now in
+    let marked = c.mark.ensures ∙ ap (λ y. set c.loop-at.marks y.visible true) c.hazard-hazard.ensures in
+    let h = c.loop-at.h in
+    (omega arith, inv.1, turn ((get_or hs h empty_hazard).visible ∷ []) inv.2 (left-hazards hs h (omega (arith, few))) marked)
+
+pub returns : goal.returns
+returns c =
+    let a = c.args in
+    let hs = (process_at a.at.k a.row.now).hazards in
+    let few = hazards-length a.at.k a.row.now in
+    ends c.loop-at.invariant.2 (left-none (map (λ y. y.visible)) hs c.loop-at.h refl (omega (arith, few)))

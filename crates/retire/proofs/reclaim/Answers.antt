@@ -1,0 +1,47 @@
+-- `retire::reclaim` meets its contract: by its branches. Assumes nothing.
+use Rattle.retire.proofs.Branches.{all-nodes, scans, stays, sound-switched, params-switched, process-switched}
+use Rattle.retire.proofs.Branches.{switches}
+use Rattle.retire.proofs.reclaim.Goals as goal
+
+pub scan-requires : goal.scan-requires
+scan-requires c =
+    let all = all-nodes _ c.bounds-a.ensures in
+    (c.requires.0, c.requires.1, all.0, all.1)
+
+pub returns-then-path-eq-FALLBACK : goal.returns-then-path-eq-FALLBACK
+returns-then-path-eq-FALLBACK c =
+    let start = c in
+    let read = c.bounds-a.ensures in
+    let path = c.path.ensures in
+    scans start.requires.0 start.args.p.0 read path c.if-path-eq-FALLBACK.true c.scan.ensures
+
+pub returns-then-retired_count-a : goal.returns-then-retired_count-a
+returns-then-retired_count-a c =
+    let start = c in
+    let read = c.bounds-a.ensures in
+    let path = c.path.ensures in
+    let fast = c.if-path-eq-FALLBACK.false in
+    stays start.requires.0 start.args.p.0 read path fast c.retired_count.ensures c.if-retired_count-a.true
+
+pub scan-requires-2 : goal.scan-requires-2
+scan-requires-2 c =
+    let start = c in
+    let p = start.args.p.0 in
+    let read = c.bounds-a.ensures in
+    let path = c.path.ensures in
+    let fast = c.if-path-eq-FALLBACK.false in
+    let count = c.retired_count.ensures in
+    let switched = c.fall_back.ensures in
+    let all = all-nodes _ (params-switched start.requires.0 p read path fast count switched) in
+    (sound-switched start.requires.0 p read path fast count switched, process-switched start.requires.0 p read path fast count switched start.requires.1, all.0, all.1)
+
+pub returns : goal.returns
+returns c =
+    let start = c in
+    let p = start.args.p.0 in
+    let read = c.bounds-a.ensures in
+    let path = c.path.ensures in
+    let fast = c.if-path-eq-FALLBACK.false in
+    let count = c.retired_count.ensures in
+    let switched = c.fall_back.ensures in
+    switches start.requires.0 p read path fast count switched c.if-retired_count-a.false c.scan-2.ensures

@@ -1,0 +1,26 @@
+-- `steps::node_kinds::allocate` meets its contract: by what its questions have answered, with the guest as the table says that it is
+-- read. Assumes nothing.
+use Rattle.questions.proofs.Accepted.{node_in_lem}
+use Rattle.domain.specs.Effects.{given}
+use Rattle.model.specs.Machine.{allocating}
+use Rattle.model.specs.Kinds.{Allocate}
+use mathlib.Core.Path.{refl}
+use Rattle.steps.proofs.AsRead.{of-read}
+use Rattle.model.specs.State.{Node}
+use Prim.Native.Nat.{ℕ}
+use Rattle.steps.proofs.node_kinds.allocate.Goals as goal
+
+pub set_node-requires : goal.set_node-requires
+set_node-requires c =
+    let start = c in
+    let a = start.args in
+    (start.requires.0, node_in_lem Allocate a.words.now a.p.0 0 a.c.0 a.guest start.requires refl)
+
+pub returns : goal.returns
+returns c =
+    let at-set-node = c in
+    let at-guest-read = at-set-node in
+    let start = at-guest-read in
+    let a = start.args in
+    let node-for : ℕ → Node = λ guest. allocating (given 1 a.p.0 0 a.c.0 guest) in
+    (of-read node-for a.words.now a.c.0 at-guest-read.guest_read.ensures at-set-node.set_node.ensures, refl)

@@ -1,0 +1,11 @@
+-- `steps::node_kinds::make_reachable` meets its contract: by the node as it was. Assumes nothing.
+use Rattle.model.specs.Machine.{publishing}
+use Rattle.steps.proofs.AsRead.{of-read}
+use Rattle.steps.proofs.node_kinds.make_reachable.Goals as goal
+
+pub returns : goal.returns
+returns c =
+    let start = c in
+    let ws = start.args.words.now in
+    let n = start.args.c.0 in
+    of-read publishing ws n c.node-was.ensures c.set_node.ensures

@@ -1,0 +1,11 @@
+-- `steps::node_kinds::reinsert` meets its contract: the node is made Reachable. Assumes nothing.
+use mathlib.Core.Path.{refl}
+use Rattle.model.specs.Kinds.{Reinsert}
+use Rattle.questions.proofs.Accepted.{node_in_lem}
+use Rattle.steps.proofs.node_kinds.reinsert.Goals as goal
+
+pub make_reachable-requires : goal.make_reachable-requires
+make_reachable-requires c =
+    let start = c in
+    let a = start.args in
+    (start.requires.0, node_in_lem Reinsert a.words.now a.p.0 0 a.c.0 0 start.requires refl)

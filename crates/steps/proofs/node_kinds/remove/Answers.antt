@@ -1,0 +1,27 @@
+-- `steps::node_kinds::remove` meets its contract: by the node as it was. Assumes nothing.
+use mathlib.Core.Path.{refl}
+use Rattle.model.specs.Kinds.{Remove}
+use Rattle.model.specs.Machine.{removing}
+use Rattle.questions.proofs.Accepted.{node_in_lem}
+use Rattle.steps.proofs.AsRead.{of-read}
+use Rattle.steps.proofs.node_kinds.remove.Goals as goal
+
+pub node-x-requires : goal.node-x-requires
+node-x-requires c =
+    let start = c in
+    let a = start.args in
+    (start.requires.0, node_in_lem Remove a.words.now a.p.0 0 a.c.0 0 start.requires refl)
+
+pub set_node-requires : goal.set_node-requires
+set_node-requires c =
+    let start = c in
+    let a = start.args in
+    (start.requires.0, node_in_lem Remove a.words.now a.p.0 0 a.c.0 0 start.requires refl)
+
+pub returns : goal.returns
+returns c =
+    let start = c in
+    let ws = start.args.words.now in
+    let p = start.args.p.0 in
+    let n = start.args.c.0 in
+    (of-read (removing p) ws n c.node-x.ensures c.set_node.ensures, refl)

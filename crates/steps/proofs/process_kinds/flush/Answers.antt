@@ -1,0 +1,12 @@
+-- `steps::process_kinds::flush` meets its contract: by what its questions have answered. Assumes nothing.
+use mathlib.Core.Path.{refl}
+use Rattle.model.specs.Kinds.{Flush}
+use Rattle.questions.proofs.Accepted.{process_in_lem}
+use Rattle.steps.proofs.process_kinds.flush.Goals as goal
+
+pub flush-requires : goal.flush-requires
+flush-requires c =
+    let start = c in
+    let ws = start.args.words.now in
+    let p = start.args.p.0 in
+    (start.requires.0, process_in_lem Flush ws p 0 0 0 start.requires refl)
