@@ -1,0 +1,15 @@
+-- `explain::sentence::put_visible` meets its contract: one text after another. Assumes nothing.
+use Rattle.explain.proofs.Puts.{exactly, further}
+use Rattle.explain.proofs.sentence.put_visible.Goals as goal
+
+pub returns : goal.returns
+returns c =
+    let fifth = c in
+    let fourth = fifth in
+    let third = fourth in
+    let second = third in
+    let first = second in
+    let upto-second = further (exactly first.put_bytes-at.ensures) second.put_number-at.ensures in
+    let upto-third = further upto-second (exactly third.put_bytes-at-2.ensures) in
+    let upto-fourth = further upto-third fourth.put_number-at-2.ensures in
+    further upto-fourth (exactly fifth.put_bytes.ensures)
