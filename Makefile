@@ -5,25 +5,17 @@
 .NOTPARALLEL:
 SECONDS ?= 60
 
-# each written only after a program was proved, linked and printed what it is to print: the program itself is there before that is tried
-proved := target/proved-by-make
-
 test:
 	@tools/gate
 
-run: $(proved)/desk $(proved)/why
+run:
+	@tools/build-programs
 	@target/bin/desk < examples/first.book
 	@target/bin/why 1 < examples/waits.book
 
-bench: $(proved)/desk
+bench:
+	@tools/build-programs
 	@tools/bench
 
 soak:
 	@tools/soak $(SECONDS)
-
-sources := $(shell find crates -name '*.rt' -o -name '*.antt') $(wildcard crates/*/args crates/*/stdin crates/*/stdout)
-
-$(proved)/%: crates.txt $(sources)
-	@rt check $* >&2
-	@mkdir -p $(@D)
-	@touch $@

@@ -1,1 +1,1 @@
-"""Step books: written and read, run by the proved library, told in sentences and drawn. tools/book is the command."""
+"""Step books: written and read, and run by the proved programs and the proved library. tools/book is the command."""

@@ -5,8 +5,7 @@ import os
 from collections import namedtuple
 
 HERE = os.path.dirname(os.path.realpath(__file__))
-# in the source tree, and where `make install` puts it
-PLACES = ("../../target/shared/libqsense_book.so", "../../../lib/qsense/libqsense_book.so")
+PLACES = ("../../target/shared/libqsense_book.so",)
 
 Word = ctypes.c_uint32
 Words = ctypes.POINTER(Word)

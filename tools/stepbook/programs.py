@@ -5,8 +5,7 @@ import subprocess
 
 from .library import found
 
-# in the source tree, and where `make install` puts them
-PLACES = ("../../target/bin/", "../../../bin/")
+PLACES = ("../../target/bin/",)
 
 
 class Failed(Exception):

@@ -1,10 +1,12 @@
 // What the benchmark links beside the library: the check by itself, and the reachable count in two passes. No part of the library.
+#![tactic(auto)]
+
 ghost use Rattle.std.specs.Prelude.{◌≡◌};
 ghost use Rattle.layout.specs.Words.{well_formed};
 ghost use Rattle.qsense.specs.Calls.{reachable_words};
-ghost use Rattle.qsense_c.specs.Values.{reply_of};
+ghost use Rattle.answers.specs.Values.{reply_of};
 
-use qsense_c::Answer;
+use answers::Answer;
 
 // Whether the words are those of a well-formed domain.
 #[unsafe(no_mangle)]

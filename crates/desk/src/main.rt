@@ -1,18 +1,20 @@
 // The program `desk`: reads a step book (a trace) from standard input and writes its print once: the paper's lines, or `refused` and the
 // number. What it writes is `print::print_book` of what was read; the reading and the writing are the system's. With an argument, or a
 // terminal as standard input, it says how it is called.
+#![tactic(auto)]
+
 ghost use Rattle.std.specs.Prelude.{◌≤◌, length, take};
 ghost use Rattle.print.specs.Printed.{print_room, Prints};
 ghost use Rattle.desk.specs.Sizes.{most_read, short_book};
 ghost use Rattle.desk.specs.Written.{IsPrint};
 
 use input::Input;
-use libc::{STDERR_FILENO, STDIN_FILENO, STDOUT_FILENO};
 use print::rooms;
+use std::io::Read;
 use trace::widths::most;
 
-fn complain(text: &[u8]) {
-    let _done = io::write_all(STDERR_FILENO, text);
+fn complain(rt: &impl Eprint, text: &str) {
+    let _done = rt.eprint(text);
 }
 
 // The print of the first n bytes.
@@ -24,62 +26,64 @@ fn print_start(book: &[u8], n: usize, out: &mut [u8]) -> usize
 }
 
 // Writes a print, the first n bytes, and answers whether it was written.
-fn write_print(out: &[u8], n: usize) -> bool
+fn write_print(rt: &impl Print, out: &[u8], n: usize) -> bool
     requires { IsPrint out.now n }
 {
-    io::write_all(STDOUT_FILENO, &out[0..n])
+    rt.write_all(&out[0..n]).is_ok()
 }
 
 // Prints a short book, the first n bytes; a write that fails is told.
-fn print_short(book: &[u8], n: usize)
+fn print_short(rt: &(impl Print + Eprint), book: &[u8], n: usize)
     requires { (n ≤ length book.now) × (n ≤ short_book) }
 {
     let mut space = [0u8; rooms::SHORT_PRINT];
     let out: &mut [u8] = &mut space;
     let size = print_start(book, n, out);
-    if !write_print(out, size) {
-        complain(b"desk: cannot write standard output\n");
+    if !write_print(rt, out, size) {
+        complain(rt, "desk: cannot write standard output\n");
     }
 }
 
 // The same of a book of any length.
-fn print_long(book: &[u8], n: usize)
+#[inline(never)]
+fn print_long(rt: &(impl Print + Eprint), book: &[u8], n: usize)
     requires { (n ≤ length book.now) × (n ≤ most_read) }
 {
     let mut space = [0u8; rooms::PRINT];
     let out: &mut [u8] = &mut space;
     let size = print_start(book, n, out);
-    if !write_print(out, size) {
-        complain(b"desk: cannot write standard output\n");
+    if !write_print(rt, out, size) {
+        complain(rt, "desk: cannot write standard output\n");
     }
 }
 
 // Prints the first n bytes. A short book does without the long buffer: the pages of a frame are touched as it is entered, and print_long,
-// which is called twice and writes by itself, is not made a part of main.
-fn print_input(book: &[u8], n: usize)
+// which writes by itself, is never made a part of main.
+fn print_input(rt: &(impl Print + Eprint), book: &[u8], n: usize)
     requires { (n ≤ length book.now) × (n ≤ most_read) }
 {
     if n <= rooms::SHORT_BOOK {
-        print_short(book, n);
+        print_short(rt, book, n);
     } else {
-        print_long(book, n);
+        print_long(rt, book, n);
     }
 }
 
 // Prints what is read; a read that fails is told.
-fn read_and_print() {
+fn read_and_print(rt: &(impl Print + Eprint), reader: &mut impl Read) {
     let mut book = [0u8; most::READ];
-    match input::read_all(STDIN_FILENO, &mut book) {
-        Input::Whole(n) => print_input(&book, n),
-        Input::Full(n) => print_long(&book, n),
-        Input::Failed => complain(b"desk: cannot read standard input\n"),
+    match input::read_all(reader, &mut book) {
+        Input::Whole(n) => print_input(rt, &book, n),
+        Input::Full(n) => print_long(rt, &book, n),
+        Input::Failed => complain(rt, "desk: cannot read standard input\n"),
     }
 }
 
-fn main() {
-    if os::arg_count() > 1 || input::is_terminal(STDIN_FILENO) {
-        complain(b"desk: called as 'desk < FILE': FILE is a step book\n");
+fn main(rt: HostRuntime) {
+    let mut stdin = rt.stdin();
+    if input::has_argument(&rt, 1) || input::is_terminal(&stdin) {
+        complain(&rt, "desk: called as 'desk < FILE': FILE is a step book\n");
     } else {
-        read_and_print();
+        read_and_print(&rt, &mut stdin);
     }
 }

@@ -14,7 +14,7 @@ use Rattle.lists.proofs.Facts as F
 use Rattle.lists.proofs.Upto.{all-at, all_yes, all_of}
 use Rattle.lists.proofs.Rows.{length-unrows, unrows-at}
 use Rattle.model.specs.Params.{Params, node_width}
-use Rattle.model.specs.State.{Node, Free, Reachable, Retired, free_node}
+use Rattle.model.specs.State.{Free, Reachable, Retired, free_node}
 use Rattle.model.specs.WellFormed.{NodeFits}
 use Rattle.layout.specs.Shape.{word}
 use Rattle.layout.specs.Codecs.{node_at}

@@ -2,7 +2,7 @@
 -- outside is said by `nodes_codec`. Assumes nothing.
 use Rattle.std.specs.Prelude.{ℕ, ◌+◌, ◌*◌, Bool, true, not, ◌&&◌, ◌||◌, List, [], ◌≡◌, refl, length, leb, ltb, eqb}
 use Rattle.std.proofs.Common.{append-nil, ◌∙◌, arith, mul_comm, take_all}
-use Rattle.lists.specs.Tests.{implies, All}
+use Rattle.lists.specs.Tests.{implies}
 use Rattle.lists.specs.Upto.{all_upto}
 use Rattle.lists.specs.Rows.{rows, unrows}
 use Rattle.lists.proofs.Rows.{length-unrows, codec-length, codec-unrows, codec-rows}

@@ -1,7 +1,6 @@
 -- Words that are those of a well-formed domain: what a caller that has checked once knows. Assumes nothing.
 use Rattle.std.specs.Prelude.{ℕ, ◌*◌, ◌≤◌, List, ◌≡◌, length}
 use Rattle.model.specs.Params.{Params, Between, most_processes, most_hazards, most_nodes}
-use Rattle.model.specs.State.{Domain}
 use Rattle.model.specs.WellFormed.{WellFormed}
 use Rattle.layout.specs.Shape.{Shape, process_width, word_count_by}
 use Rattle.layout.specs.Encode.{encode_by, decode_by, shape}

@@ -5,7 +5,7 @@ use mathlib.Core.Bool.{Bool, true, false, ◌&&◌, cond}
 use mathlib.Core.List.{List, [], ◌∷◌}
 use mathlib.Core.Path.{◌≡◌, refl, sym, ap, subst}
 use native.Mathlib.Omega.{arith}
-use native.Mathlib.Nat.{suc-add, add-suc, add-zero, zero-add}
+use native.Mathlib.Nat.{add-zero, zero-add}
 use borrow.Author.Tests.{le-leb, lt-leb, lt-ltb, le-ltb, ltb-true, ltb-false}
 use lib.ListN.{take, drop}
 use lib.Dec.{leb, ltb}
@@ -104,7 +104,7 @@ module _ {A : Type 0} (f : A → Bool) where
   count-front a (suc k) i (x ∷ xs) h =
       let e : suc i + k ≡ i + suc k = omega arith in
       let rest =
-        subst (λ n. count_from (λ c y. between a n c && f y) (suc i) xs ≡ count f (take k xs)) e (count-front a k (suc i) xs (omega arith)) in
+      subst (λ n. count_from (λ c y. between a n c && f y) (suc i) xs ≡ count f (take k xs)) e (count-front a k (suc i) xs (omega arith)) in
       rw (le-leb a i h, lt-ltb i (i + suc k) (omega arith)) (ap (λ n. cond (f x) 1 0 + n) rest)
 
   count-later : (n k i : ℕ) (l : List A) → count_from (λ c x. between (i + n) (i + n + k) c && f x) i l ≡ count f (take k (drop n l))
@@ -113,7 +113,7 @@ module _ {A : Type 0} (f : A → Bool) where
   count-later (suc n) k i (x ∷ xs) =
       let e : suc i + n ≡ i + suc n = omega arith in
       let rest =
-        subst (λ m. count_from (λ c y. between m (m + k) c && f y) (suc i) xs ≡ count f (take k (drop n xs))) e (count-later n k (suc i) xs) in
+      subst (λ m. count_from (λ c y. between m (m + k) c && f y) (suc i) xs ≡ count f (take k (drop n xs))) e (count-later n k (suc i) xs) in
       rw (lt-leb (i + suc n) i (omega arith), zero-add) rest
 
   -- from place a up to place b

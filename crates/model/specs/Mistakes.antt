@@ -17,7 +17,6 @@ use Rattle.model.specs.Leave.{owned_by}
 use Rattle.model.specs.Portion.{end_of}
 use Rattle.model.specs.Questions.{ask, first_no, questions, refusal_of}
 use Rattle.model.specs.Machine.{Outcome, act, answered}
-use Rattle.model.specs.Cases.{params}
 
 -- ---- machines that are right but for one place
 

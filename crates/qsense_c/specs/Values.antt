@@ -1,13 +1,9 @@
 -- The values of the exports as the library's. Assumes nothing.
 use Rattle.std.specs.Prelude.{ℕ, List}
-use Rattle.qsense.specs.Calls.{Reply, PortionReply}
+use Rattle.qsense.specs.Calls.{PortionReply}
 use Rattle.qsense.specs.Numbers.{Numbers}
-use Rattle.qsense_c.specs.declared.Answer.{Answer}
 use Rattle.qsense_c.specs.declared.Portioned.{Portioned}
 use Rattle.qsense_c.specs.declared.Why.{Why}
-
-abbrev pub reply_of : Answer → List ℕ → Reply
-reply_of r ws = record { refusal = r.refusal; value = r.value; words = ws }
 
 abbrev pub portion_reply_of : Portioned → List ℕ → PortionReply
 portion_reply_of r ws =

@@ -1,4 +1,6 @@
 // The calls for C and Rust hosts: thin exports over the library. A slice travels as a pointer and a length in words.
+#![tactic(auto)]
+
 ghost use Rattle.std.specs.Prelude.{◌≡◌};
 ghost use Rattle.model.specs.Params.{params_of};
 ghost use Rattle.layout.specs.Ranges.{length_for};
@@ -8,17 +10,12 @@ ghost use Rattle.qsense.specs.Calls.{make_words, step_words, portion_words, reac
 ghost use Rattle.qsense.specs.Numbers.{told, numbers_of};
 ghost use Rattle.qsense.specs.Runs.{ran_of, run_into};
 ghost use Rattle.domain.specs.Effects.{given};
-ghost use Rattle.qsense_c.specs.Values.{reply_of, portion_reply_of, numbers_in};
+ghost use Rattle.answers.specs.Values.{reply_of};
+ghost use Rattle.qsense_c.specs.Values.{portion_reply_of, numbers_in};
 
+use answers::Answer;
 use layout::{HazardId, NodeId, Params, ProcessId};
 use waiting::{Behind, Explained, Reason};
-
-#[repr(C)]
-#[derive(Drop)]
-pub struct Answer {
-    pub refusal: u32,
-    pub value: u32,
-}
 
 // The words that a domain takes; 0 unless N, K and M are in their ranges.
 #[unsafe(no_mangle)]

@@ -13,7 +13,7 @@ use Rattle.lists.proofs.RowParts.{zeros-more, lent-part, put-part}
 use Rattle.model.specs.Params.{buffer_size, store_width, buffer_width}
 use Rattle.model.specs.State.{Pending, Process, with_stores}
 use Rattle.model.specs.Hazards.{committing, drained, flushed}
-use Rattle.layout.specs.Shape.{word, stores_place}
+use Rattle.layout.specs.Shape.{stores_place}
 use Rattle.layout.specs.Codecs.{stores_word, lead_at, pending_words}
 use Rattle.layout.specs.Encode.{shape, buffer_words, process_words, process_at}
 use Rattle.stretch.specs.Stretch.{Stretch}

@@ -1,6 +1,8 @@
 // The program `why`: takes a card's number as its argument, reads a step book (a trace) or a domain's words from standard input, and writes
 // one line: why the card is still waiting, or `refused` and the number. What it writes is `explain::explain` of what was read; the arguments,
 // the reading and the writing are the system's. Called otherwise, or with a terminal as standard input, it says how it is called.
+#![tactic(auto)]
+
 ghost use Rattle.std.specs.Prelude.{◌≡◌, ◌≤◌, length, take};
 ghost use Rattle.explain.specs.Sentence.{most_line};
 ghost use Rattle.explain.specs.Number.{number_in};
@@ -10,11 +12,12 @@ ghost use Rattle.why.specs.Written.{IsGiven, IsNumber, IsLine};
 use explain::number;
 use explain::number::Number;
 use input::Input;
-use libc::{STDERR_FILENO, STDIN_FILENO, STDOUT_FILENO};
+use std::env::Env;
+use std::io::{IsTerminal, Read};
 use trace::widths::most;
 
-fn complain(text: &[u8]) {
-    let _done = io::write_all(STDERR_FILENO, text);
+fn complain(rt: &impl Eprint, text: &str) {
+    let _done = rt.eprint(text);
 }
 
 // The number that the first n bytes of an argument are.
@@ -34,54 +37,58 @@ fn explain_start(card: u32, book: &[u8], n: usize, out: &mut [u8]) -> usize
 }
 
 // Writes a line, the first n bytes, and answers whether it was written.
-fn write_line(out: &[u8], n: usize) -> bool
+fn write_line(rt: &impl Print, out: &[u8], n: usize) -> bool
     requires { IsLine out.now n }
 {
-    io::write_all(STDOUT_FILENO, &out[0..n])
+    rt.write_all(&out[0..n]).is_ok()
 }
 
 // Writes the line of a card and the first n bytes; a write that fails is told.
-fn answer(card: u32, book: &[u8], n: usize)
+fn answer(rt: &(impl Print + Eprint), card: u32, book: &[u8], n: usize)
     requires { (n ≤ length book.now) × IsNumber card }
 {
     let mut space = [0u8; explain::LINE];
     let out: &mut [u8] = &mut space;
     let size = explain_start(card, book, n, out);
-    if !write_line(out, size) {
-        complain(b"why: cannot write standard output\n");
+    if !write_line(rt, out, size) {
+        complain(rt, "why: cannot write standard output\n");
     }
 }
 
 // Answers for a card by what is read; a read that fails is told.
-fn read_and_answer(card: u32)
+fn read_and_answer(rt: &(impl Print + Eprint), reader: &mut impl Read, card: u32)
     requires { IsNumber card }
 {
     let mut book = [0u8; most::READ];
-    match input::read_all(STDIN_FILENO, &mut book) {
-        Input::Whole(n) => answer(card, &book, n),
-        Input::Full(n) => answer(card, &book, n),
-        Input::Failed => complain(b"why: cannot read standard input\n"),
+    match input::read_all(reader, &mut book) {
+        Input::Whole(n) => answer(rt, card, &book, n),
+        Input::Full(n) => answer(rt, card, &book, n),
+        Input::Failed => complain(rt, "why: cannot read standard input\n"),
     }
 }
 
 // The argument's number; none unless there is one argument, and it is a number, and standard input is no terminal.
-fn asked() -> Number
+fn asked(env: &impl Env, stdin: &impl IsTerminal) -> Number
     ensures { IsGiven result }
 {
-    if os::arg_count() != 2 || input::is_terminal(STDIN_FILENO) {
+    if !input::has_argument(env, 1) || input::has_argument(env, 2) || input::is_terminal(stdin) {
         return Number::None;
     }
     let mut arg = [0u8; number::DIGITS];
-    let n = os::arg(1, &mut arg);
-    number_of(&arg, n)
+    match env.arg(1, &mut arg) {
+        Ok(n) => number_of(&arg, n),
+        Err(_) => Number::None,
+    }
 }
 
-fn main() {
-    let number = asked();
+fn main(rt: HostRuntime) {
+    let mut stdin = rt.stdin();
+    let number = asked(&rt, &stdin);
     match number {
-        Number::Given(card) => read_and_answer(card),
+        Number::Given(card) => read_and_answer(&rt, &mut stdin, card),
         Number::None => complain(
-            b"why: called as 'why CARD < FILE': CARD is a card's number, FILE a step book or a desk's words\n",
+            &rt,
+            "why: called as 'why CARD < FILE': CARD is a card's number, FILE a step book or a desk's words\n",
         ),
     }
 }

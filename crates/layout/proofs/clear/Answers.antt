@@ -1,6 +1,5 @@
 -- `layout::clear` meets its contract. The loop's invariant: the first i words are 0, the others as they were. The measure is what is left
 -- of the length. Assumes nothing.
-use Prim.Native.Nat.{◌-◌}
 use mathlib.Core.List.{append-nil}
 use mathlib.Core.Path.{◌≡◌, refl}
 use lib.ListN.{length, length-set}

@@ -1,5 +1,4 @@
 -- `qsense::make` meets its contract: the two tests, and then the words of a fresh domain. Assumes nothing.
-use mathlib.Core.Bool.{true}
 use mathlib.Core.Path.{◌≡◌, sym, ◌∙◌}
 use mathlib.Core.Logic.{◌≢◌}
 use native.Mathlib.Omega.{arith}
@@ -7,7 +6,6 @@ use borrow.Author.Tests.{eq-eqb, ne_eqb}
 use lib.ListN.{length}
 use Rattle.model.specs.Params.{word_count}
 use Rattle.layout.specs.Values.{params_value}
-use Rattle.layout.specs.Ranges.{in_range}
 use Rattle.layout.proofs.Ranges.{in_range_lem, length-in-range}
 use Rattle.qsense.specs.Calls.{make_words}
 use Rattle.qsense.proofs.make.Goals as goal

@@ -1,6 +1,6 @@
 -- `stretch::unassigned` meets its contract. The invariant: ok says whether the first h hazards are unassigned. The measure: the hazards that are left.
 -- Assumes nothing.
-use Prim.Native.Nat.{ℕ, ◌-◌}
+use Prim.Native.Nat.{ℕ}
 use mathlib.Core.Path.{refl, sym, ap}
 use native.Mathlib.Omega.{arith}
 use lib.Dec.{eqb}

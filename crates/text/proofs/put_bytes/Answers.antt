@@ -1,6 +1,5 @@
 -- `text::put_bytes` meets its contract. The loop's invariant: the first i bytes of the text are put. The measure is how many are left.
 -- Assumes nothing.
-use Prim.Native.Nat.{◌-◌}
 use mathlib.Core.Path.{refl}
 use native.Mathlib.Omega.{arith}
 use lib.ListN.{length-set}

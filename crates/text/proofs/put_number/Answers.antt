@@ -1,9 +1,9 @@
 -- `text::put_number` meets its contract. The loop's invariant: with the digits that are left stored too, the buffer is what it is to be.
 -- The measure is how many are left. Assumes nothing.
 use Prim.Native.Nat.{◌+◌, ◌-◌}
-use mathlib.Core.Path.{◌≡◌, refl, ◌∙◌}
+use mathlib.Core.Path.{refl, ◌∙◌}
 use native.Mathlib.Omega.{arith}
-use lib.ListN.{length, length-set}
+use lib.ListN.{length-set}
 use Rattle.text.proofs.Digits.{one-digit, again, ended, alone}
 use Rattle.text.proofs.put_number.Goals as goal
 

@@ -4,7 +4,7 @@ use mathlib.Core.List.{List}
 use Prim.Native.Nat.{ℕ}
 use mathlib.Core.Path.{◌≡◌, sym, ap, ◌∙◌}
 use Rattle.layout.specs.Ranges.{in_range}
-use Rattle.trace.specs.Trace.{given, Front, trailer_right, params_of, front_at, front_of}
+use Rattle.trace.specs.Trace.{given, Front, params_of, front_at, front_of}
 use Rattle.trace.proofs.Opening.{too_long, no-trailer, trailer-fits, out_of_range, opens}
 use native.Mathlib.Omega.{arith}
 use Rattle.trace.proofs.open_trace.Goals as goal

@@ -4,7 +4,6 @@ use Rattle.wellformed.proofs.Head.{ready, too_short, bad-head, bad-length, all-f
 use Rattle.wellformed.proofs.Head.{nodes-lent, words_long}
 use Rattle.wellformed.proofs.Answering.{malformed, counted}
 use Rattle.lists.specs.Tests.{count}
-use Rattle.limits.specs.Limits.{none}
 use Rattle.nodes.specs.Pass.{is_counted}
 use Rattle.layout.proofs.Checked.{head-facts}
 use Rattle.layout.specs.Words.{head_fits, processes_fit, well_formed}
@@ -89,8 +88,8 @@ returns-then-not-found c =
     let l = c.if-words-a.false ∙ words_long ws c.process_start-a.ensures.0 c.nodes_width.ensures in
     let r = (head-facts _ h).params in
     let nodes' =
-      c.go_over-found.ensures.fits _ _ r.processes.0 (omega (arith, r.processes.1)) (omega (arith, c.shared_slice_known-1.given clock_word))
-      c.node_limits-limits.ensures in
+    c.go_over-found.ensures.fits _ _ r.processes.0 (omega (arith, r.processes.1)) (omega (arith, c.shared_slice_known-1.given clock_word))
+    c.node_limits-limits.ensures in
     let fitting = found-fits ws h l c.process_start-a.ensures.0 _ _ c.processes_faults-faults.ensures nodes' in
     malformed _ _ (sym (not-true c.go_over-found.result.fits c.if-not-found.true) ∙ fitting)
 
@@ -101,8 +100,8 @@ returns c =
     let l = c.if-words-a.false ∙ words_long ws c.process_start-a.ensures.0 c.nodes_width.ensures in
     let r = (head-facts _ h).params in
     let nodes' =
-      c.go_over-found.ensures.fits _ _ r.processes.0 (omega (arith, r.processes.1)) (omega (arith, c.shared_slice_known-1.given clock_word))
-      c.node_limits-limits.ensures in
+    c.go_over-found.ensures.fits _ _ r.processes.0 (omega (arith, r.processes.1)) (omega (arith, c.shared_slice_known-1.given clock_word))
+    c.node_limits-limits.ensures in
     let fitting = found-fits ws h l c.process_start-a.ensures.0 _ _ c.processes_faults-faults.ensures nodes' in
     let good = not-false c.go_over-found.result.fits c.if-not-found.false in
     c.pair.ensures.0 ∙ counted _ _ _ fitting good (counting ws c.process_start-a.ensures.0 _ _ _ c.go_over-found.ensures.counted good)

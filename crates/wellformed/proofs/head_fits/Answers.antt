@@ -1,8 +1,7 @@
 -- `wellformed::head_fits` meets its contract: seven ways out with no, then the last three tests. Assumes nothing.
 use Rattle.wellformed.proofs.Head.{no₁, no₂, no₃, no₄, no₅, no₆, no₇}
 use Rattle.wellformed.proofs.Head.{all_in}
-use Rattle.layout.specs.Encode.{shape}
-use Rattle.std.proofs.Common.{true, sym, ◌∙◌, le-leb}
+use Rattle.std.proofs.Common.{sym, ◌∙◌, le-leb}
 use borrow.Author.Tests.{lt-leb}
 use Rattle.wellformed.proofs.head_fits.Goals as goal
 

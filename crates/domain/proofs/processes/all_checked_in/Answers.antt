@@ -1,5 +1,4 @@
 -- `processes::all_checked_in` meets its contract: all processes so far pass, and one that does not is the way out. Assumes nothing.
-use Prim.Native.Nat.{◌-◌}
 use mathlib.Core.Path.{sym, ◌∙◌}
 use lib.Dec.{eqb}
 use Rattle.lists.specs.Tests.{implies}

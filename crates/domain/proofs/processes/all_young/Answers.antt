@@ -1,5 +1,4 @@
 -- `processes::all_young` meets its contract: the flag says whether all processes so far pass. Assumes nothing.
-use Prim.Native.Nat.{◌-◌}
 use Rattle.domain.proofs.Passing.{starts, turn, ends}
 use Rattle.domain.proofs.processes.all_young.Goals as goal
 

@@ -1,5 +1,4 @@
 -- `processes::clear_presence` meets its contract: the presence words of the processes passed are 0, the others as they were. Assumes nothing.
-use Prim.Native.Nat.{◌-◌}
 use Rattle.domain.proofs.Clearing.{starts, turn, ends}
 use Rattle.domain.proofs.processes.clear_presence.Goals as goal
 

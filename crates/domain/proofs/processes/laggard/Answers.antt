@@ -1,5 +1,4 @@
 -- `processes::laggard` meets its contract: none so far lags, and the first that does is the way out. Assumes nothing.
-use Prim.Native.Nat.{◌-◌}
 use mathlib.Core.Bool.{true, false, not, ◌&&◌}
 use mathlib.Core.Path.{◌≡◌, sym, ◌∙◌}
 use lib.Dec.{eqb}

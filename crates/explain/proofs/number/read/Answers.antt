@@ -1,11 +1,7 @@
 -- `explain::number::read` meets its contract. The loop's invariant: the first i bytes are digits, and n is their number. The measure is how
 -- many are left. Assumes nothing.
-use Prim.Native.Nat.{◌-◌}
-use mathlib.Core.Bool.{true}
-use mathlib.Core.Path.{◌≡◌, sym, ◌∙◌}
+use mathlib.Core.Path.{sym, ◌∙◌}
 use native.Mathlib.Omega.{arith}
-use lib.ListN.{get_or}
-use Rattle.explain.specs.Number.{is_digit}
 use Rattle.explain.proofs.Digits.{no_number, no-digits, digit-is, room, digits_more, spoilt, all_read}
 use Rattle.explain.proofs.number.read.Goals as goal
 

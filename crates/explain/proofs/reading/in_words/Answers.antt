@@ -1,11 +1,6 @@
 -- `reading::in_words` meets its contract: no domain has more words than there is room for. Assumes nothing.
-use Prim.Native.Nat.{◌/◌, ◌≤◌}
-use mathlib.Core.Path.{◌≡◌, ◌∙◌}
+use mathlib.Core.Path.{◌∙◌}
 use native.Mathlib.Omega.{arith}
-use lib.ListN.{length}
-use Rattle.layout.specs.Ranges.{most_words}
-use Rattle.qsense.specs.Calls.{why_words}
-use Rattle.explain.specs.Input.{words_in, in_words}
 use Rattle.explain.proofs.Ways.{no_words, whole_words}
 use Rattle.explain.proofs.reading.in_words.Goals as goal
 

@@ -1,6 +1,6 @@
 -- `fresh::write_fresh` meets its contract: all words 0, then the parameters in the first seven, then the processes present. The loop's
 -- invariant: the first p processes are. The measure is the processes left. Assumes nothing.
-use Prim.Native.Nat.{ℕ, ◌-◌}
+use Prim.Native.Nat.{ℕ}
 use mathlib.Core.List.{List}
 use mathlib.Core.Path.{◌≡◌, refl, sym, ◌∙◌, ap}
 use lib.Seq.{sets}

@@ -1,6 +1,5 @@
 -- `counts::none_under_way` meets its contract. The flag says whether none of the first i nodes is under way; the measure is the number
 -- of those left. Assumes nothing.
-use Prim.Native.Nat.{◌-◌}
 use mathlib.Core.Bool.{not}
 use mathlib.Core.Path.{ap}
 use Rattle.nodes.proofs.Passing.{starts, turn, ends}

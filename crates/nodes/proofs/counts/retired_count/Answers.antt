@@ -1,7 +1,6 @@
 -- `counts::retired_count` meets its contract. The loop has counted the nodes up to i; the measure is the number of those left. Assumes nothing.
 use mathlib.Core.Bool.{Bool, cond}
 use mathlib.Core.Path.{ap, ◌∙◌}
-use Prim.Native.Nat.{◌-◌}
 use Rattle.nodes.proofs.Counting.{starts, turn, ends}
 use Rattle.nodes.proofs.counts.retired_count.Goals as goal
 

@@ -1,6 +1,6 @@
 -- `handing::hand_over` meets its contract. The first i nodes are handed over, each that is Retired by p, and the others are as they were;
 -- the measure is the number of those left. Assumes nothing.
-use Prim.Native.Nat.{ℕ, ◌+◌, ◌-◌, ◌<◌}
+use Prim.Native.Nat.{ℕ, ◌+◌, ◌<◌}
 use mathlib.Core.Bool.{Bool, true, false}
 use mathlib.Core.List.{List}
 use mathlib.Core.Path.{◌≡◌, sym, ◌∙◌}
@@ -37,8 +37,8 @@ loop-i-preserved c =
     let inv = c.loop-i.invariant in
     let lt = c.loop-i-test.true in
     elim c.if-retired_by.branch [
-      then-retired_by w ↦ hands a.p.0 a.q.0 a.time a.epoch inv lt c.retired_by.ensures w.if-retired_by.true (w.nodes-is ∙ w.pass.ensures)
-    | else-retired_by w ↦ keeps a.p.0 a.q.0 a.time a.epoch inv lt c.retired_by.ensures w.if-retired_by.false w.nodes-is
+      | then-retired_by w ↦ hands a.p.0 a.q.0 a.time a.epoch inv lt c.retired_by.ensures w.if-retired_by.true (w.nodes-is ∙ w.pass.ensures)
+      | else-retired_by w ↦ keeps a.p.0 a.q.0 a.time a.epoch inv lt c.retired_by.ensures w.if-retired_by.false w.nodes-is
     ]
 
 pub returns : goal.returns

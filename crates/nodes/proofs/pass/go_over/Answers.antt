@@ -1,7 +1,6 @@
 -- `pass::go_over` meets its contract. The invariant is what `further` promises, of the first i nodes. The measure: the nodes that are
 -- left. Assumes nothing.
 use Rattle.nodes.proofs.GoingOver.{starts, few, stops, ends}
-use Prim.Native.Nat.{◌-◌}
 use mathlib.Core.Path.{refl}
 use native.Mathlib.Omega.{arith}
 use Rattle.nodes.proofs.pass.go_over.Goals as goal

@@ -1,7 +1,6 @@
 -- `portions::reach` meets its contract. The loop has gone over the nodes up to i; the measure is the number of those left. Assumes nothing.
 use mathlib.Core.Bool.{Bool, cond}
 use mathlib.Core.Path.{ap, ◌∙◌}
-use Prim.Native.Nat.{◌-◌}
 use Rattle.nodes.proofs.Reaching.{starts, turn, stops, ends}
 use Rattle.nodes.proofs.portions.reach.Goals as goal
 

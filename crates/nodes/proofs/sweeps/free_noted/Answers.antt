@@ -1,6 +1,6 @@
 -- `sweeps::free_noted` meets its contract. The loop has freed the nodes at the first j places; the measure is the number of those left.
 -- Assumes nothing.
-use Prim.Native.Nat.{ℕ, ◌-◌}
+use Prim.Native.Nat.{ℕ}
 use mathlib.Core.Path.{ap}
 use native.Mathlib.Numerals.{add-one}
 use lib.ListN.{get_or}

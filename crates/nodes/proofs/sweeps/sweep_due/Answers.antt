@@ -1,6 +1,5 @@
 -- `sweeps::sweep_due` meets its contract. The loop has noted those of the nodes before i that are to be freed; the measure is the number
 -- of those left. Assumes nothing.
-use Prim.Native.Nat.{◌-◌}
 use mathlib.Core.Path.{refl}
 use native.Mathlib.Numerals.{add-one}
 use native.Mathlib.Omega.{arith}

@@ -1,6 +1,5 @@
 -- `sweeps::sweep_expired` meets its contract. The loop has noted those of the first i nodes that are to be freed; the measure is the
 -- number of those left. Assumes nothing.
-use Prim.Native.Nat.{◌-◌}
 use mathlib.Core.Path.{refl}
 use native.Mathlib.Numerals.{add-one}
 use Rattle.nodes.proofs.Sweeping.{notes-none, notes-more, noted, notes-all}

@@ -2,7 +2,6 @@
 -- leaves, i steps of it being taken. The measure: the steps that are left. Assumes nothing.
 use Rattle.qsense.proofs.Turns.{going_start, going_on, going_end}
 use mathlib.Core.Path.{◌≡◌, refl}
-use Prim.Native.Nat.{◌-◌}
 use native.Mathlib.Omega.{arith}
 use borrow.Author.Rules.{rules}
 use Rattle.qsense.proofs.runs.run_all.Goals as goal

@@ -1,5 +1,5 @@
 -- `retire::marks::mark_all` meets its contract: the nodes passed are marked, and the others make all of them. Assumes nothing.
-use Prim.Native.Nat.{◌-◌, ◌≤◌}
+use Prim.Native.Nat.{◌≤◌}
 use mathlib.Core.List.{[], ◌∷◌}
 use mathlib.Core.Path.{refl}
 use native.Mathlib.Omega.{arith}

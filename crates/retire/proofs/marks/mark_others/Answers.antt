@@ -1,5 +1,4 @@
 -- `retire::marks::mark_others` meets its contract: the processes passed are marked, and the others make all of them. Assumes nothing.
-use Prim.Native.Nat.{◌-◌}
 use native.Mathlib.Omega.{arith}
 use Rattle.layout.specs.Encode.{decode}
 use Rattle.domain.proofs.ReadParams.{processes-length}

@@ -1,5 +1,5 @@
 -- `retire::marks::mark_row` meets its contract: the hazards passed are marked, and the others make all of them. Assumes nothing.
-use Prim.Native.Nat.{◌-◌, ◌≤◌}
+use Prim.Native.Nat.{◌≤◌}
 use mathlib.Core.List.{[], ◌∷◌, map}
 use mathlib.Core.Bool.{true}
 use mathlib.Core.Path.{refl, ap, ◌∙◌}

@@ -1,5 +1,5 @@
 -- `shown::first` meets its contract: none of the nodes so far is it, and the first that is, is the way out. Assumes nothing.
-use Prim.Native.Nat.{ℕ, ◌-◌}
+use Prim.Native.Nat.{ℕ}
 use mathlib.Core.Path.{ap, ◌∙◌, sym}
 use borrow.Author.Tests.{eq-eqb, ne_eqb}
 use lib.ListN.{get_or}

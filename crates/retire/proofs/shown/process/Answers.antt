@@ -1,5 +1,4 @@
 -- `shown::process` meets its contract: none so far shows it, and the first that does is the way out. Assumes nothing.
-use Prim.Native.Nat.{◌-◌}
 use mathlib.Core.Path.{sym, ◌∙◌}
 use Rattle.domain.proofs.Seeking.{look-starts, look-turn, look-found, look-ends}
 use Rattle.retire.proofs.shown.process.Goals as goal

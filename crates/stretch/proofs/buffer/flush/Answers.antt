@@ -1,6 +1,5 @@
 -- `buffer::flush` meets its contract. The invariant: to flush the stores from e on is to flush all (`Flushing`). The measure: the stores that are left.
 -- Assumes nothing.
-use Prim.Native.Nat.{◌-◌}
 use mathlib.Core.Path.{refl, ap, ◌∙◌}
 use native.Mathlib.Omega.{arith}
 use lib.ListN.{length, length-set}

@@ -1,5 +1,4 @@
 -- `buffer::shift` meets its contract. The invariant: the first j words have moved. The measure: the words that are left. Assumes nothing.
-use Prim.Native.Nat.{◌-◌}
 use mathlib.Core.Path.{◌≡◌, refl}
 use mathlib.Core.List.{[], ◌∷◌}
 use native.Mathlib.Omega.{arith}

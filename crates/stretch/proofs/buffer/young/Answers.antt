@@ -1,5 +1,4 @@
 -- `buffer::young` meets its contract. The invariant: ok says whether the first e stores are young. The measure: the stores that are left. Assumes nothing.
-use Prim.Native.Nat.{◌-◌}
 use native.Mathlib.Omega.{arith}
 use Rattle.lists.proofs.Tested.{tested-none, tested-more, tested-all}
 use Rattle.stretch.specs.Stores.{no_store}

@@ -1,6 +1,6 @@
 -- `view::few_show` meets its contract. The invariant: found says whether one of the first h hazards shows the node. The measure: the
 -- hazards that are left. Assumes nothing.
-use Prim.Native.Nat.{ℕ, ◌-◌}
+use Prim.Native.Nat.{ℕ}
 use mathlib.Core.Bool.{not}
 use mathlib.Core.Path.{◌≡◌, refl, ap, ◌∙◌}
 use native.Mathlib.Omega.{arith}

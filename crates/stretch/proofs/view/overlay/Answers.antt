@@ -1,6 +1,6 @@
 -- `view::overlay` meets its contract. The invariant: the stores from e on make what all make (`Overlaying`). The measure: the stores that are left.
 -- Assumes nothing.
-use Prim.Native.Nat.{◌+◌, ◌-◌, ◌*◌}
+use Prim.Native.Nat.{◌+◌, ◌*◌}
 use mathlib.Core.Path.{◌∙◌}
 use lib.ListN.{length-set}
 use Rattle.stretch.proofs.Viewed.{overlay-starts, overlay-turn, overlay-ends}

@@ -1,5 +1,5 @@
 -- `view::visible` meets its contract. The invariant: the first h nodes are there (`Shown`). The measure: the hazards that are left. Assumes nothing.
-use Prim.Native.Nat.{◌+◌, ◌-◌, ◌*◌}
+use Prim.Native.Nat.{◌+◌, ◌*◌}
 use mathlib.Core.Path.{◌≡◌, refl}
 use lib.ListN.{length-set}
 use Rattle.layout.specs.Shape.{hazard_place}

@@ -2,7 +2,7 @@
 -- nothing.
 use Rattle.wellformed.proofs.ProcessWithin.{hazards-start, hazards-turn}
 use Rattle.limits.specs.Limits.{none}
-use Rattle.std.proofs.Common.{◌≡◌, ◌-◌, arith}
+use Rattle.std.proofs.Common.{◌≡◌, arith}
 use Rattle.wellformed.proofs.processes.hazards.Goals as goal
 
 pub loop-h-init : goal.loop-h-init

@@ -2,7 +2,7 @@
 -- the processes that are left. Assumes nothing.
 use Rattle.wellformed.proofs.ProcessWithin.{process-turn, processes-end, process-room}
 use Rattle.lists.proofs.Upto.{all_none}
-use Rattle.std.proofs.Common.{◌-◌, refl, ◌∙◌, arith}
+use Rattle.std.proofs.Common.{refl, ◌∙◌, arith}
 use Rattle.wellformed.proofs.processes.processes_faults.Goals as goal
 
 pub loop-p-init : goal.loop-p-init
