@@ -26,8 +26,10 @@
 #define QSENSE_VERSION_STRING \
     QSENSE_QUOTED(QSENSE_VERSION_MAJOR) "." QSENSE_QUOTED(QSENSE_VERSION_MINOR) "." QSENSE_QUOTED(QSENSE_VERSION_PATCH)
 
-/* An answer that nobody looks at is a mistake: a refused call has done nothing. */
-#if defined(__GNUC__) || defined(__clang__)
+/* An answer that nobody looks at is a mistake: a refused call has done nothing. With QSENSE_STRICT defined the compiler warns of one. */
+#if !defined(QSENSE_STRICT)
+#define QSENSE_LOOK_AT_IT
+#elif defined(__GNUC__) || defined(__clang__)
 #define QSENSE_LOOK_AT_IT __attribute__((warn_unused_result))
 #elif defined(__cplusplus) && __cplusplus >= 201703L
 #define QSENSE_LOOK_AT_IT [[nodiscard]]
