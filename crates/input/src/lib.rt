@@ -9,7 +9,7 @@ use std::env::{Env, FillError};
 use std::io::{IsTerminal, Read};
 
 // What was read: so many bytes at the start of the buffer, and they are all of the input; or the buffer is full, and there may be more.
-#[derive(Drop)]
+#[derive(Clone, Copy)]
 pub enum Input {
     Whole(usize),
     Full(usize),
@@ -17,7 +17,7 @@ pub enum Input {
 }
 
 // What one read gave: a count of bytes, 0 at the end of the input.
-#[derive(Drop)]
+#[derive(Clone, Copy)]
 struct Got {
     ok: bool,
     count: usize,

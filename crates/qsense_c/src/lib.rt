@@ -95,7 +95,7 @@ pub extern "C" fn qsense_run(words: &mut [u32], steps: &[u32], answers: &mut [u3
 
 // Every number is 0 where it is refused, but for the refusal.
 #[repr(C)]
-#[derive(Drop)]
+#[derive(Clone, Copy)]
 pub struct Portioned {
     pub refusal: u32,
     pub freed: u32,
@@ -143,7 +143,7 @@ pub extern "C" fn qsense_reachable(words: &[u32]) -> Answer
 // answer: 0 refused, 1 not Retired, 2 too young, 3 visible, 4 ready. behind: 0 not asked, 1 no process is behind, 2 there is one. A number
 // that a case does not have is 0.
 #[repr(C)]
-#[derive(Drop)]
+#[derive(Clone, Copy)]
 pub struct Why {
     pub refusal: u32,
     pub answer: u32,
