@@ -1,4 +1,4 @@
--- A question of the kinds that it is asked of, and the first no of the list, as the code goes through it. Assumes nothing.
+-- A question of the kinds that it is asked of. Assumes nothing.
 use Prim.Native.Nat.{ℕ}
 use mathlib.Core.Bool.{Bool, true, false, not, ◌&&◌, ◌||◌, cond, false≢true}
 use mathlib.Core.Path.{◌≡◌, refl, sym, ◌∙◌, ap}
@@ -58,11 +58,3 @@ absent-to-join n e = ap (λ m. present_for (kind_of m)) (sym e)
 
 pub present-else : (n : ℕ) → n ≢ number_of Join → 1 ≡ present_for (kind_of n)
 present-else n z = ap (λ (b : Bool). cond b 0 1) (sym (ne_eqb n (number_of Join) z) ∙ same_kind n Join refl)
-
--- ---- the list: b is the code's answer, a the model's, m the first no of the rest
-
-pub yes-then : (n : ℕ) {b a : Bool} {r m : ℕ} → b ≡ a → b ≡ true → r ≡ m → r ≡ cond a m n
-yes-then n e h q = rw (← e, h) q
-
-pub no-here : (n m : ℕ) {b a : Bool} → b ≡ a → b ≡ false → n ≡ cond a m n
-no-here n m e h = rw (← e, h)

@@ -39,8 +39,12 @@ module _ (bs : List ℕ) (f : Front) (opened : front_of bs ≡ given f) where
   ranged = in_range_lem f.params (passed bs f opened).range
 
   -- its domain takes so many words
-  pub long-is : length_for f.params.processes f.params.hazards f.params.nodes ≡ word_count f.params
+  long-is : length_for f.params.processes f.params.hazards f.params.nodes ≡ word_count f.params
   long-is = length-in-range f.params (passed bs f opened).range
+
+  -- words as many as the code asks for are as many as its domain takes
+  pub words-enough : {l w : ℕ} → l ≡ w → w ≡ length_for f.params.processes f.params.hazards f.params.nodes → l ≡ word_count f.params
+  words-enough e g = e ∙ g ∙ long-is
 
   pub long-most : word_count f.params ≤ most_words
   long-most = words-most f.params ranged

@@ -10,10 +10,7 @@ use Rattle.domain.proofs.hand_over.Goals as goal
 pub returns : goal.returns
 unfolding decode_by
 returns c =
-    let at-nodes = c in
-    let at-lead = at-nodes in
-    let start = at-lead in
-    let a = start.args in
+    let a = c.args in
     let ws = a.words.now in
-    nodes-back start.requires.0 _ at-nodes.nodes_at-a.ensures.value (map (handed a.p.0 a.q.0 _ _)) _ c.hand_over.ensures
-    ∙ (λ t. encode (with_nodes (decode ws) (map (handed a.p.0 a.q.0 (decode ws).clock (at-lead.lead-epoch.ensures t).epoch) (decode ws).nodes)))
+    nodes-back c.requires.0 _ c.nodes_at-a.ensures.value (map (handed a.p.0 a.q.0 _ _)) _ c.hand_over.ensures
+    ∙ (λ t. encode (with_nodes (decode ws) (map (handed a.p.0 a.q.0 (decode ws).clock (c.lead-epoch.ensures t).epoch) (decode ws).nodes)))

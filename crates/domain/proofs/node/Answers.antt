@@ -7,6 +7,4 @@ use Rattle.domain.proofs.node.Goals as goal
 
 pub returns : goal.returns
 returns c =
-    let at-nodes = c in
-    let start = at-nodes in
-    c.node.ensures ∙ ap (λ ns. get_or ns start.args.c.0 free_node) (lent-nodes start.requires.0 _ at-nodes.nodes_at-a.ensures.value)
+    c.node.ensures ∙ ap (λ ns. get_or ns c.args.c.0 free_node) (lent-nodes c.requires.0 _ c.nodes_at-a.ensures.value)

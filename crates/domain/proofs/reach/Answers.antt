@@ -10,7 +10,6 @@ use Rattle.domain.proofs.reach.Goals as goal
 
 pub returns : goal.returns
 returns c =
-    let start = c in
-    let a = start.args in
+    let a = c.args in
     subst (λ (ns : List Node). Reached (retired_by a.p.0) a.limit a.c.0 (params_in a.words.now).nodes ns c.reach.result)
-    (lent-nodes start.requires.0 _ c.nodes_at-a.ensures.value) c.reach.ensures
+    (lent-nodes c.requires.0 _ c.nodes_at-a.ensures.value) c.reach.ensures

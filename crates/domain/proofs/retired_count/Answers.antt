@@ -10,6 +10,5 @@ use Rattle.domain.proofs.retired_count.Goals as goal
 
 pub returns : goal.returns
 returns c =
-    let start = c in
     c.retired_count.ensures
-    ∙ ap (λ (ns : List Node). count (retired_by start.args.p.0) (drop start.args.from ns)) (lent-nodes start.requires.0 _ c.nodes_at-a.ensures.value)
+    ∙ ap (λ (ns : List Node). count (retired_by c.args.p.0) (drop c.args.from ns)) (lent-nodes c.requires.0 _ c.nodes_at-a.ensures.value)

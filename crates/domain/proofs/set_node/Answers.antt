@@ -6,7 +6,5 @@ use Rattle.domain.proofs.set_node.Goals as goal
 
 pub returns : goal.returns
 returns c =
-    let at-nodes = c in
-    let start = at-nodes in
-    let a = start.args in
-    nodes-back start.requires.0 _ at-nodes.nodes_at-a.ensures.value (λ ns. set ns a.c.0 (node_value a.x)) _ c.put.ensures
+    let a = c.args in
+    nodes-back c.requires.0 _ c.nodes_at-a.ensures.value (λ ns. set ns a.c.0 (node_value a.x)) _ c.put.ensures

@@ -6,6 +6,4 @@ use Rattle.domain.proofs.sweep_expired.Goals as goal
 pub returns : goal.returns
 unfolding decode_by
 returns c =
-    let at-nodes = c in
-    let start = at-nodes in
-    swept-back start.requires _ at-nodes.nodes_at-a.ensures.value _ _ _ c.sweep_expired.ensures
+    swept-back c.requires _ c.nodes_at-a.ensures.value _ _ _ c.sweep_expired.ensures

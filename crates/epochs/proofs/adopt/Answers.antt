@@ -4,30 +4,26 @@ use Rattle.epochs.proofs.adopt.Goals as goal
 
 pub lead-l-requires : goal.lead-l-requires
 lead-l-requires c =
-    let start = c in
-    let p = start.args.p.0 in
+    let p = c.args.p.0 in
     let swept = c.sweep_expired-freed.ensures in
-    (sound-swept start.requires.0 p start.requires.1 swept, process-swept start.requires.0 p start.requires.1 swept)
+    (sound-swept c.requires.0 p c.requires.1 swept, process-swept c.requires.0 p c.requires.1 swept)
 
 pub epoch-global-requires : goal.epoch-global-requires
 epoch-global-requires c =
-    let start = c in
-    let p = start.args.p.0 in
+    let p = c.args.p.0 in
     let swept = c.sweep_expired-freed.ensures in
-    sound-swept start.requires.0 p start.requires.1 swept
+    sound-swept c.requires.0 p c.requires.1 swept
 
 pub set_lead-requires : goal.set_lead-requires
 set_lead-requires c =
-    let start = c in
-    let p = start.args.p.0 in
+    let p = c.args.p.0 in
     let swept = c.sweep_expired-freed.ensures in
-    (sound-swept start.requires.0 p start.requires.1 swept, process-swept start.requires.0 p start.requires.1 swept)
+    (sound-swept c.requires.0 p c.requires.1 swept, process-swept c.requires.0 p c.requires.1 swept)
 
 pub returns : goal.returns
 returns c =
-    let start = c in
-    let p = start.args.p.0 in
+    let p = c.args.p.0 in
     let swept = c.sweep_expired-freed.ensures in
     let lead = c.lead-l.ensures in
     let epoch = c.epoch-global.ensures in
-    adopts start.requires.0 p start.requires.1 swept lead epoch c.set_lead.ensures
+    adopts c.requires.0 p c.requires.1 swept lead epoch c.set_lead.ensures

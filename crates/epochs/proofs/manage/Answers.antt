@@ -8,60 +8,52 @@ use Rattle.epochs.proofs.manage.Goals as goal
 
 pub lead-l-requires : goal.lead-l-requires
 lead-l-requires c =
-    let start = c in
-    let p = start.args.p.0 in
-    (start.requires.0, process_in_lem Manage start.args.words.now p 0 0 0 start.requires refl)
+    let p = c.args.p.0 in
+    (c.requires.0, process_in_lem Manage c.args.words.now p 0 0 0 c.requires refl)
 
 pub bounds-a-requires : goal.bounds-a-requires
 bounds-a-requires c = c.requires.0
 
 pub overflow_add-calls : goal.overflow_add-calls
 overflow_add-calls c =
-    let start = c in
-    let p = start.args.p.0 in
-    omega (arith, calls-small p start.requires c.lead-l.ensures)
+    let p = c.args.p.0 in
+    omega (arith, calls-small p c.requires c.lead-l.ensures)
 
 pub nonzero_rem-calls : goal.nonzero_rem-calls
 nonzero_rem-calls c =
-    let start = c in
-    let p = start.args.p.0 in
-    let positive = threshold-positive p start.requires c.lead-l.ensures c.bounds-a.ensures in
+    let p = c.args.p.0 in
+    let positive = threshold-positive p c.requires c.lead-l.ensures c.bounds-a.ensures in
     omega (arith, positive)
 
 pub set_lead-requires : goal.set_lead-requires
 set_lead-requires c =
-    let start = c in
-    let p = start.args.p.0 in
-    (start.requires.0, process_in_lem Manage start.args.words.now p 0 0 0 start.requires refl)
+    let p = c.args.p.0 in
+    (c.requires.0, process_in_lem Manage c.args.words.now p 0 0 0 c.requires refl)
 
 pub returns-then-calls-ne0 : goal.returns-then-calls-ne0
 returns-then-calls-ne0 c =
-    let start = c in
-    let p = start.args.p.0 in
+    let p = c.args.p.0 in
     let lead = c.lead-l.ensures in
     let read = c.bounds-a.ensures in
-    only-counts p start.requires lead read c.if-calls-ne0.true _ c.set_lead.ensures
+    only-counts p c.requires lead read c.if-calls-ne0.true _ c.set_lead.ensures
 
 pub set_lead-requires-2 : goal.set_lead-requires-2
 set_lead-requires-2 c =
-    let start = c in
-    let p = start.args.p.0 in
-    (start.requires.0, process_in_lem Manage start.args.words.now p 0 0 0 start.requires refl)
+    let p = c.args.p.0 in
+    (c.requires.0, process_in_lem Manage c.args.words.now p 0 0 0 c.requires refl)
 
 pub managing-requires : goal.managing-requires
 managing-requires c =
-    let start = c in
-    let p = start.args.p.0 in
+    let p = c.args.p.0 in
     let lead = c.lead-l.ensures in
     let read = c.bounds-a.ensures in
     let set = c.set_lead-2.ensures in
-    (sound-called p start.requires lead read set, process-called p start.requires lead read set)
+    (sound-called p c.requires lead read set, process-called p c.requires lead read set)
 
 pub returns : goal.returns
 returns c =
-    let start = c in
-    let p = start.args.p.0 in
+    let p = c.args.p.0 in
     let lead = c.lead-l.ensures in
     let read = c.bounds-a.ensures in
     let set = c.set_lead-2.ensures in
-    acts p start.requires lead read set c.if-calls-ne0.false c.managing.ensures
+    acts p c.requires lead read set c.if-calls-ne0.false c.managing.ensures

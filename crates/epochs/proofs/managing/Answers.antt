@@ -5,32 +5,28 @@ use Rattle.epochs.proofs.managing.Goals as goal
 
 pub returns-then-path-ne-FALLBACK : goal.returns-then-path-ne-FALLBACK
 returns-then-path-ne-FALLBACK c =
-    let start = c in
-    let p = start.args.p.0 in
-    fast start.requires.0 p c.path.ensures c.if-path-ne-FALLBACK.true c.quiescent.ensures
+    let p = c.args.p.0 in
+    fast c.requires.0 p c.path.ensures c.if-path-ne-FALLBACK.true c.quiescent.ensures
 
 pub returns-then-not-all_checked_in : goal.returns-then-not-all_checked_in
 returns-then-not-all_checked_in c =
-    let start = c in
-    let p = start.args.p.0 in
-    some-absent start.requires.0 p c.path.ensures c.if-path-ne-FALLBACK.false (sym c.all_checked_in.ensures ∙ c.if-not-all_checked_in.true)
+    let p = c.args.p.0 in
+    some-absent c.requires.0 p c.path.ensures c.if-path-ne-FALLBACK.false (sym c.all_checked_in.ensures ∙ c.if-not-all_checked_in.true)
 
 pub quiescent-requires-2 : goal.quiescent-requires-2
 quiescent-requires-2 c =
-    let start = c in
-    let p = start.args.p.0 in
+    let p = c.args.p.0 in
     let path = c.path.ensures in
     let slow = c.if-path-ne-FALLBACK.false in
     let back = c.set_path.ensures in
-    (sound-fast start.requires.0 p path slow back, process-fast start.requires.0 p path slow back start.requires.1)
+    (sound-fast c.requires.0 p path slow back, process-fast c.requires.0 p path slow back c.requires.1)
 
 pub returns : goal.returns
 returns c =
-    let start = c in
-    let p = start.args.p.0 in
+    let p = c.args.p.0 in
     let path = c.path.ensures in
     let slow = c.if-path-ne-FALLBACK.false in
     let present = c.all_checked_in.ensures in
     let All-there = sym present ∙ c.if-not-all_checked_in.false in
     let back = c.set_path.ensures in
-    goes_back start.requires.0 p path slow back All-there c.quiescent-2.ensures
+    goes_back c.requires.0 p path slow back All-there c.quiescent-2.ensures

@@ -4,7 +4,5 @@ use Rattle.explain.proofs.explain.Goals as goal
 
 pub returns : goal.returns
 returns c =
-    let put = c in
-    let asked = put in
-    let a = asked.args in
-    says a.card a.bytes.now _ _ _ asked.asked-answer.ensures put.put_sentence.ensures
+    let a = c.args in
+    says a.card a.bytes.now _ _ _ c.asked-answer.ensures c.put_sentence.ensures

@@ -10,9 +10,7 @@ use Rattle.print.proofs.print_book.Goals as goal
 
 pub print_found-requires : goal.print_found-requires
 print_found-requires c =
-    let known = c in
-    let opened = known in
-    (sym opened.open_trace-opened.ensures ∙ ap opened_value known.in-Found.is, opened.requires)
+    (sym c.open_trace-opened.ensures ∙ ap opened_value c.in-Found.is, c.requires)
 
 pub put_refused-requires : goal.put_refused-requires
 put_refused-requires c =
@@ -20,9 +18,5 @@ put_refused-requires c =
 
 pub returns-in_default : goal.returns-in_default
 returns-in_default c =
-    let line = c in
-    let number = line in
-    let arm = number in
-    let opened = arm in
-    let refusal = ap refused number.refusal.ensures ∙ numbered opened.open_trace-opened.result arm.in_default.not-Found in
-    not_found _ _ _ _ _ (refusal ∙ opened.open_trace-opened.ensures) opened.requires line.put_refused.ensures
+    let refusal = ap refused c.refusal.ensures ∙ numbered c.open_trace-opened.result c.in_default.not-Found in
+    not_found _ _ _ _ _ (refusal ∙ c.open_trace-opened.ensures) c.requires c.put_refused.ensures

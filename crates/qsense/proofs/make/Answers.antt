@@ -17,8 +17,7 @@ returns-then-not-in_range c = rw (sym c.in_range.ensures ∙ c.if-not-in_range.t
 pub returns-then-words-wide : goal.returns-then-words-wide
 unfolding make_words
 returns-then-words-wide c =
-    let at-else = c in
-    let a = at-else.args in
+    let a = c.args in
     let yes' = sym c.in_range.ensures ∙ c.if-not-in_range.false in
     let long = length-in-range (params_value a.params) yes' in
     let other : length a.words.now ≢ word_count (params_value a.params) = λ e. omega (arith, long, c.if-words-wide.true) in
@@ -26,16 +25,14 @@ returns-then-words-wide c =
 
 pub write_fresh-requires : goal.write_fresh-requires
 write_fresh-requires c =
-    let at-else = c in
-    let a = params_value at-else.args.params in
+    let a = params_value c.args.params in
     let long = length-in-range a (sym c.in_range.ensures ∙ c.if-not-in_range.false) in
     (in_range_lem a (sym c.in_range.ensures ∙ c.if-not-in_range.false), omega (arith, long))
 
 pub returns : goal.returns
 unfolding make_words
 returns c =
-    let at-else = c in
-    let a = at-else.args in
+    let a = c.args in
     let yes' = sym c.in_range.ensures ∙ c.if-not-in_range.false in
     let wide = length-in-range (params_value a.params) yes' in
     let long : length a.words.now ≡ word_count (params_value a.params) = omega (arith, wide) in

@@ -4,6 +4,5 @@ use Rattle.qsense.proofs.reachable.Goals as goal
 
 pub returns : goal.returns
 returns c =
-    let at-pass = c in
-    unpaired at-pass.reachable-answer.result c.low.ensures c.high.ensures
-    (answered at-pass.args.words.now at-pass.reachable-answer.ensures)
+    unpaired c.reachable-answer.result c.low.ensures c.high.ensures
+    (answered c.args.words.now c.reachable-answer.ensures)

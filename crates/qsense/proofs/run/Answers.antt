@@ -13,16 +13,14 @@ use Rattle.qsense.proofs.run.Goals as goal
 pub returns-then-steps-count : goal.returns-then-steps-count
 unfolding run_into
 returns-then-steps-count c =
-    let start = c in
-    let l : ℕ = length start.args.steps.now in
+    let l : ℕ = length c.args.steps.now in
     let other : l ≢ step_width * step_count l = λ e. omega (arith, c.if-steps-count.true) in
     rw (ne_eqb _ _ other)
 
 pub returns-then-answers-count : goal.returns-then-answers-count
 unfolding run_into
 returns-then-answers-count c =
-    let start = c in
-    let a = start.args in
+    let a = c.args in
     let l : ℕ = length a.steps.now in
     let whole : l ≡ step_width * step_count l = omega arith in
     let other : length a.answers.now ≢ answer_width * step_count l = λ e. omega (arith, c.if-answers-count.true) in
@@ -31,11 +29,9 @@ returns-then-answers-count c =
 pub returns : goal.returns
 unfolding run_into
 returns c =
-    let at-run-all = c in
-    let start = at-run-all in
-    let a = start.args in
+    let a = c.args in
     let l : ℕ = length a.steps.now in
     let whole : l ≡ step_width * step_count l = omega arith in
     let long : length a.answers.now ≡ answer_width * step_count l = omega arith in
-    let ran = at-run-all.run_all.ensures in
+    let ran = c.run_all.ensures in
     rw (eq-eqb _ _ whole, eq-eqb _ _ long) (λ t. record { taken = true; words = ran.0 t; answers = ran.1 t })

@@ -4,7 +4,5 @@ use Rattle.qsense.proofs.step.Goals as goal
 
 pub returns : goal.returns
 returns c =
-    let at-run-all = c in
-    let start = at-run-all in
-    let a = start.args in
-    one-step a.words.now _ _ a.kind a.process.0 a.hazard.0 a.node.0 a.guest at-run-all.run_all.ensures
+    let a = c.args in
+    one-step a.words.now _ _ a.kind a.process.0 a.hazard.0 a.node.0 a.guest c.run_all.ensures

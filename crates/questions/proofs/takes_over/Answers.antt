@@ -11,8 +11,6 @@ returns-then-kind-ne-LEAVE c = of_others _ Leave refl c.if-kind-ne-LEAVE.true _
 
 pub returns : goal.returns
 returns c =
-    let at_Bounds = c in
-    let at-lead = at_Bounds in
-    let a = at-lead.args in
-    of-kind _ Leave refl at-lead.if-kind-ne-LEAVE.false
-    (λ t. ltb a.c.0 (at_Bounds.bounds.ensures t).processes && (not (eqb a.c.0 a.p.0) && eqb (at-lead.lead-present.ensures t).present 1))
+    let a = c.args in
+    of-kind _ Leave refl c.if-kind-ne-LEAVE.false
+    (λ t. ltb a.c.0 (c.bounds.ensures t).processes && (not (eqb a.c.0 a.p.0) && eqb (c.lead-present.ensures t).present 1))

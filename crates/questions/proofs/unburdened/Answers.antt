@@ -11,6 +11,5 @@ returns-then-kind-ne-LEAVE c = of_others _ Leave refl c.if-kind-ne-LEAVE.true _
 
 pub returns : goal.returns
 returns c =
-    let at-lead = c in
-    of-kind _ Leave refl at-lead.if-kind-ne-LEAVE.false
-    (λ t. c.unassigned.ensures t && (eqb (at-lead.lead-stores.ensures t).stores 0 && c.none_under_way.ensures t))
+    of-kind _ Leave refl c.if-kind-ne-LEAVE.false
+    (λ t. c.unassigned.ensures t && (eqb (c.lead-stores.ensures t).stores 0 && c.none_under_way.ensures t))

@@ -20,15 +20,12 @@ replay_step-turn-requires c =
 
 pub loop-i-preserved : goal.loop-i-preserved
 loop-i-preserved c =
-    let taken = c in
-    let wide = taken in
-    let at-loop = wide in
-    let first = at-loop.args.first in
-    let step = ap (λ (n : ℕ). step_at at-loop.args.bytes.now (first + 12 * n)) wide.wide.ensures.0 in (
+    let first = c.args.first in
+    let step = ap (λ (n : ℕ). step_at c.args.bytes.now (first + 12 * n)) c.wide.ensures.0 in (
       omega arith,
       search rules,
       search rules,
-      going_on _ _ _ _ _ _ _ (omega arith) step _ _ _ _ _ _ _ _ _ at-loop.loop-i.invariant.3 taken.replay_step-turn.ensures,
+      going_on _ _ _ _ _ _ _ (omega arith) step _ _ _ _ _ _ _ _ _ c.loop-i.invariant.3 c.replay_step-turn.ensures,
     )
 
 pub returns : goal.returns

@@ -10,38 +10,34 @@ scan-requires c =
 
 pub returns-then-path-eq-FALLBACK : goal.returns-then-path-eq-FALLBACK
 returns-then-path-eq-FALLBACK c =
-    let start = c in
     let read = c.bounds-a.ensures in
     let path = c.path.ensures in
-    scans start.requires.0 start.args.p.0 read path c.if-path-eq-FALLBACK.true c.scan.ensures
+    scans c.requires.0 c.args.p.0 read path c.if-path-eq-FALLBACK.true c.scan.ensures
 
 pub returns-then-retired_count-a : goal.returns-then-retired_count-a
 returns-then-retired_count-a c =
-    let start = c in
     let read = c.bounds-a.ensures in
     let path = c.path.ensures in
     let fast = c.if-path-eq-FALLBACK.false in
-    stays start.requires.0 start.args.p.0 read path fast c.retired_count.ensures c.if-retired_count-a.true
+    stays c.requires.0 c.args.p.0 read path fast c.retired_count.ensures c.if-retired_count-a.true
 
 pub scan-requires-2 : goal.scan-requires-2
 scan-requires-2 c =
-    let start = c in
-    let p = start.args.p.0 in
+    let p = c.args.p.0 in
     let read = c.bounds-a.ensures in
     let path = c.path.ensures in
     let fast = c.if-path-eq-FALLBACK.false in
     let count = c.retired_count.ensures in
     let switched = c.fall_back.ensures in
-    let all = all-nodes _ (params-switched start.requires.0 p read path fast count switched) in
-    (sound-switched start.requires.0 p read path fast count switched, process-switched start.requires.0 p read path fast count switched start.requires.1, all.0, all.1)
+    let all = all-nodes _ (params-switched c.requires.0 p read path fast count switched) in
+    (sound-switched c.requires.0 p read path fast count switched, process-switched c.requires.0 p read path fast count switched c.requires.1, all.0, all.1)
 
 pub returns : goal.returns
 returns c =
-    let start = c in
-    let p = start.args.p.0 in
+    let p = c.args.p.0 in
     let read = c.bounds-a.ensures in
     let path = c.path.ensures in
     let fast = c.if-path-eq-FALLBACK.false in
     let count = c.retired_count.ensures in
     let switched = c.fall_back.ensures in
-    switches start.requires.0 p read path fast count switched c.if-retired_count-a.false c.scan-2.ensures
+    switches c.requires.0 p read path fast count switched c.if-retired_count-a.false c.scan-2.ensures

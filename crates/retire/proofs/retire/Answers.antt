@@ -7,48 +7,43 @@ use Rattle.retire.proofs.retire.Goals as goal
 
 pub lead-l-requires : goal.lead-l-requires
 lead-l-requires c =
-    let start = c in
-    let ws = start.args.words.now in
-    let p = start.args.p.0 in
-    let n = start.args.c.0 in
-    (start.requires.0, process_in_lem Retire ws p 0 n 0 start.requires refl)
+    let ws = c.args.words.now in
+    let p = c.args.p.0 in
+    let n = c.args.c.0 in
+    (c.requires.0, process_in_lem Retire ws p 0 n 0 c.requires refl)
 
 pub clock-clock-requires : goal.clock-clock-requires
 clock-clock-requires c = c.requires.0
 
 pub node-x-requires : goal.node-x-requires
 node-x-requires c =
-    let start = c in
-    let ws = start.args.words.now in
-    let p = start.args.p.0 in
-    let n = start.args.c.0 in
-    (start.requires.0, node_in_lem Retire ws p 0 n 0 start.requires refl)
+    let ws = c.args.words.now in
+    let p = c.args.p.0 in
+    let n = c.args.c.0 in
+    (c.requires.0, node_in_lem Retire ws p 0 n 0 c.requires refl)
 
 pub set_node-requires : goal.set_node-requires
 set_node-requires c =
-    let start = c in
-    let ws = start.args.words.now in
-    let p = start.args.p.0 in
-    let n = start.args.c.0 in
-    (start.requires.0, node_in_lem Retire ws p 0 n 0 start.requires refl)
+    let ws = c.args.words.now in
+    let p = c.args.p.0 in
+    let n = c.args.c.0 in
+    (c.requires.0, node_in_lem Retire ws p 0 n 0 c.requires refl)
 
 pub reclaim-requires : goal.reclaim-requires
 reclaim-requires c =
-    let start = c in
-    let p = start.args.p.0 in
-    let n = start.args.c.0 in
+    let p = c.args.p.0 in
+    let n = c.args.c.0 in
     let lead = c.lead-l.ensures in
     let clock = c.clock-clock.ensures in
     let node = c.node-x.ensures in
     let set = c.set_node.ensures in
-    (sound-marked p n start.requires _ lead _ clock _ node _ set, process-marked p n start.requires _ lead _ clock _ node _ set)
+    (sound-marked p n c.requires _ lead _ clock _ node _ set, process-marked p n c.requires _ lead _ clock _ node _ set)
 
 pub returns : goal.returns
 returns c =
-    let start = c in
-    let p = start.args.p.0 in
-    let n = start.args.c.0 in
+    let p = c.args.p.0 in
+    let n = c.args.c.0 in
     let lead = c.lead-l.ensures in
     let clock = c.clock-clock.ensures in
     let node = c.node-x.ensures in
-    retires p n start.requires _ lead _ clock _ node _ c.set_node.ensures _ _ c.reclaim.ensures
+    retires p n c.requires _ lead _ clock _ node _ c.set_node.ensures _ _ c.reclaim.ensures

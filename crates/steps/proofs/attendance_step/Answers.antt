@@ -6,34 +6,30 @@ use Rattle.steps.proofs.attendance_step.Goals as goal
 
 pub returns-then-no-ne0 : goal.returns-then-no-ne0
 returns-then-no-ne0 c =
-    let start = c in
-    let a = start.args in
+    let a = c.args in
     let kind = c.in-15.is in
     let asked = c.refusal-no.ensures in
-    turned-away start.requires.0 15 kind a.p.0 a.h.0 a.c.0 a.guest asked c.if-no-ne0.true c.wide.ensures.0 c.wide.ensures.1
+    turned-away c.requires.0 15 kind a.p.0 a.h.0 a.c.0 a.guest asked c.if-no-ne0.true c.wide.ensures.0 c.wide.ensures.1
 
 pub returns-then-no-ne0-2 : goal.returns-then-no-ne0-2
 returns-then-no-ne0-2 c =
-    let start = c in
-    let a = start.args in
+    let a = c.args in
     let kind = last-on-attendance c.requires.1 (omega arith) in
     let asked = c.refusal-no-in_default.ensures in
-    turned-away start.requires.0 16 kind a.p.0 a.h.0 a.c.0 a.guest asked c.if-no-ne0-2.true c.wide-then-no-ne0-2.ensures.0 c.wide-then-no-ne0-2.ensures.1
+    turned-away c.requires.0 16 kind a.p.0 a.h.0 a.c.0 a.guest asked c.if-no-ne0-2.true c.wide-then-no-ne0-2.ensures.0 c.wide-then-no-ne0-2.ensures.1
 
 pub returns-else-no-ne0 : goal.returns-else-no-ne0
 returns-else-no-ne0 c =
-    let start = c in
-    let a = start.args in
+    let a = c.args in
     let kind = c.in-15.is in
     let asked = c.refusal-no.ensures in
     let yes' = c.if-no-ne0.false in
-    let-in start.requires.0 15 kind a.p.0 a.h.0 a.c.0 a.guest asked yes' c.leave.ensures c.pair.ensures.0
+    let-in c.requires.0 15 kind a.p.0 a.h.0 a.c.0 a.guest asked yes' c.leave.ensures c.pair.ensures.0
 
 pub returns-else-no-ne0-2 : goal.returns-else-no-ne0-2
 returns-else-no-ne0-2 c =
-    let start = c in
-    let a = start.args in
+    let a = c.args in
     let kind = last-on-attendance c.requires.1 (omega arith) in
     let asked = c.refusal-no-in_default.ensures in
     let yes' = c.if-no-ne0-2.false in
-    let-in start.requires.0 16 kind a.p.0 a.h.0 a.c.0 a.guest asked yes' c.join.ensures c.pair-in_default.ensures.0
+    let-in c.requires.0 16 kind a.p.0 a.h.0 a.c.0 a.guest asked yes' c.join.ensures c.pair-in_default.ensures.0

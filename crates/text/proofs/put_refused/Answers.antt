@@ -4,7 +4,5 @@ use Rattle.text.proofs.put_refused.Goals as goal
 
 pub returns : goal.returns
 returns c =
-    let second = c in
-    let first = second in
     put_then _ _ _ _ _ _ _ _ _ _
-    first.put_refused_word-at.ensures second.put_number.ensures
+    c.put_refused_word-at.ensures c.put_number.ensures

@@ -29,11 +29,13 @@ pub returns-then-not-in_range : goal.returns-then-not-in_range
 unfolding front_of
 returns-then-not-in_range c =
     let bs = c.args.bytes.now in
-    sym (out_of_range bs (front_at bs) (omega arith) (sym c.trailer_right.ensures ∙ c.if-not-trailer_right.false) (ranges bs _ c.header_of-header.ensures c.in_range.ensures ∙ c.if-not-in_range.true))
+    let right = sym c.trailer_right.ensures ∙ c.if-not-trailer_right.false in
+    sym (out_of_range bs (front_at bs) (omega arith) right (ranges bs _ c.header_of-header.ensures c.in_range.ensures ∙ c.if-not-in_range.true))
 
 pub returns : goal.returns
 unfolding front_of
 returns c =
     let bs = c.args.bytes.now in
+    let right = sym c.trailer_right.ensures ∙ c.if-not-trailer_right.false in
     ap given c.header_of-header.ensures
-    ∙ sym (opens bs (front_at bs) (omega arith) (sym c.trailer_right.ensures ∙ c.if-not-trailer_right.false) (ranges bs _ c.header_of-header.ensures c.in_range.ensures ∙ c.if-not-in_range.false))
+    ∙ sym (opens bs (front_at bs) (omega arith) right (ranges bs _ c.header_of-header.ensures c.in_range.ensures ∙ c.if-not-in_range.false))

@@ -4,24 +4,29 @@ use Rattle.wellformed.proofs.Head.{ready, too_short, bad-head, bad-length, all-f
 use Rattle.wellformed.proofs.Head.{nodes-lent, words_long}
 use Rattle.wellformed.proofs.Answering.{malformed, counted}
 use Rattle.lists.specs.Tests.{count}
+use Rattle.limits.specs.Limits.{any_word}
+use Rattle.nodes.specs.NodeLimits.{NodesFit, node_limits}
 use Rattle.nodes.specs.Pass.{is_counted}
 use Rattle.layout.proofs.Checked.{head-facts}
 use Rattle.layout.specs.Words.{head_fits, processes_fit, well_formed}
-use Rattle.layout.specs.Nodes.{nodes_in, nodes_fit}
+use Rattle.layout.specs.Nodes.{nodes_in}
 use Rattle.layout.specs.Encode.{shape, params_in, decode}
 use Rattle.layout.specs.Shape.{nodes_start, word_count_by}
 use Rattle.layout.specs.Codecs.{clock_word}
-use Rattle.std.proofs.Common.{◌≡◌, ◌-◌, ℕ, List, Bool, true, cond, ◌&&◌, length, take, drop, sym, ap, ◌∙◌, arith, rules}
+use Rattle.std.proofs.Common.{◌≡◌, ◌-◌, ◌≤◌, ℕ, List, Bool, true, cond, ◌&&◌, length, take, drop, sym, ap, ◌∙◌, arith, rules}
 use borrow.Author.Tests.{not-true, not-false}
 use Rattle.wellformed.proofs.checked.Goals as goal
 
 -- what the pass finds, past the tests of the head and the length
 module _ (ws : List ℕ) where
   found-fits : head_fits (shape.head.get ws) ≡ true → length ws ≡ word_count_by shape (params_in ws) → {a : ℕ}
-      → a ≡ nodes_start shape (params_in ws).processes (params_in ws).hazards → (x y : Bool) → x ≡ processes_fit ws
-      → y ≡ (x && nodes_fit (params_in ws).processes (shape.head.get ws).clock (params_in ws).nodes (take (length ws - a) (drop a ws)))
-      → y ≡ well_formed ws
-  found-fits h l e x y hx hy = all-fits ws x y h l hx (hy ∙ ap (λ (b : Bool). x && b) (nodes-are ws e))
+      → a ≡ nodes_start shape (params_in ws).processes (params_in ws).hazards → (shape.head.get ws).clock ≤ any_word
+      → {x y : Bool} {limits : List ℕ} → x ≡ processes_fit ws
+      → NodesFit x (params_in ws).nodes (take (length ws - a) (drop a ws)) limits y
+      → limits ≡ node_limits ((params_in ws).processes - 1) (shape.head.get ws).clock → y ≡ well_formed ws
+  found-fits h l e small {x} {y} hx fits by =
+      let n = (head-facts _ h).params.processes in
+      all-fits ws x y h l hx (fits _ _ n.0 (omega (arith, n.1)) small by ∙ ap (λ (b : Bool). x && b) (nodes-are ws e))
 
   counting : {a : ℕ} → a ≡ nodes_start shape (params_in ws).processes (params_in ws).hazards → (b y : Bool) (n : ℕ)
       → n ≡ cond y (count (is_counted b) (nodes_in (params_in ws).nodes (take (length ws - a) (drop a ws)))) 0 → y ≡ true
@@ -35,73 +40,63 @@ returns-then-words-lt-WIDTH c = malformed _ _ (too_short c.args.words.now (omega
 
 pub returns-then-not-head_fits : goal.returns-then-not-head_fits
 returns-then-not-head_fits c =
-    let start = c in
     malformed _ _
-    (bad-head start.args.words.now (sym c.head_fits.ensures ∙ c.if-not-head_fits.true))
+    (bad-head c.args.words.now (sym c.head_fits.ensures ∙ c.if-not-head_fits.true))
 
 pub process_start-a-requires : goal.process_start-a-requires
-process_start-a-requires c = let r = (head-facts _ (sym c.head_fits.ensures ∙ c.if-not-head_fits.false)).params in (r.hazards.1, r.processes.1)
+process_start-a-requires c =
+    let r = (head-facts _ (sym c.head_fits.ensures ∙ c.if-not-head_fits.false)).params in
+    (r.hazards.1, r.processes.1)
 
 pub nodes_width-requires : goal.nodes_width-requires
 nodes_width-requires c =
-    let past_head = c in
     (head-facts _ (sym c.head_fits.ensures ∙ c.if-not-head_fits.false)).params.nodes.1
 
 pub overflow_add-a : goal.overflow_add-a
 overflow_add-a c =
-    let past_head = c in
     let r = (head-facts _ (sym c.head_fits.ensures ∙ c.if-not-head_fits.false)).params in
     omega (arith, c.process_start-a.ensures.1, c.nodes_width.ensures, r.nodes.1)
 
 pub returns-then-words-a : goal.returns-then-words-a
 returns-then-words-a c =
-    let at-process-start = c in
-    let start = at-process-start in
-    let ws = start.args.words.now in
+    let ws = c.args.words.now in
     malformed ws _
-    (bad-length ws (λ e. c.if-words-a.true (e ∙ sym (words_long ws at-process-start.process_start-a.ensures.0 c.nodes_width.ensures))))
+    (bad-length ws (λ e. c.if-words-a.true (e ∙ sym (words_long ws c.process_start-a.ensures.0 c.nodes_width.ensures))))
 
 pub overflow_sub-n : goal.overflow_sub-n
 overflow_sub-n c =
-    let past_head = c in
     omega (arith, (head-facts _ (sym c.head_fits.ensures ∙ c.if-not-head_fits.false)).params.processes.0)
 
 pub processes_faults-faults-requires : goal.processes_faults-faults-requires
 processes_faults-faults-requires c =
-    let past-length = c in
-    let past_head = past-length in
-    ready _ (sym c.head_fits.ensures ∙ c.if-not-head_fits.false) (c.if-words-a.false ∙ words_long c.args.words.now c.process_start-a.ensures.0 c.nodes_width.ensures)
+    let ws = c.args.words.now in
+    ready ws (sym c.head_fits.ensures ∙ c.if-not-head_fits.false) (c.if-words-a.false ∙ words_long ws c.process_start-a.ensures.0 c.nodes_width.ensures)
 
 pub go_over-found-requires : goal.go_over-found-requires
 go_over-found-requires c =
-    let past-length = c in
-    let at-process-start = past-length in
-    let past_head = at-process-start in
-    let start = past_head in
+    let ws = c.args.words.now in
     let r = (head-facts _ (sym c.head_fits.ensures ∙ c.if-not-head_fits.false)).params in
-    (nodes-lent start.args.words.now at-process-start.process_start-a.ensures.0 r.nodes.1 (c.if-words-a.false ∙ words_long c.args.words.now c.process_start-a.ensures.0 c.nodes_width.ensures), search rules)
+    (nodes-lent ws c.process_start-a.ensures.0 r.nodes.1 (c.if-words-a.false ∙ words_long ws c.process_start-a.ensures.0 c.nodes_width.ensures), search rules)
 
 pub returns-then-not-found : goal.returns-then-not-found
 returns-then-not-found c =
     let ws = c.args.words.now in
     let h = sym c.head_fits.ensures ∙ c.if-not-head_fits.false in
     let l = c.if-words-a.false ∙ words_long ws c.process_start-a.ensures.0 c.nodes_width.ensures in
-    let r = (head-facts _ h).params in
-    let nodes' =
-    c.go_over-found.ensures.fits _ _ r.processes.0 (omega (arith, r.processes.1)) (omega (arith, c.shared_slice_known-1.given clock_word))
+    let small : (shape.head.get ws).clock ≤ any_word = omega (arith, c.type_inv.words clock_word) in
+    let fits =
+    found-fits ws h l c.process_start-a.ensures.0 small c.processes_faults-faults.ensures c.go_over-found.ensures.fits
     c.node_limits-limits.ensures in
-    let fitting = found-fits ws h l c.process_start-a.ensures.0 _ _ c.processes_faults-faults.ensures nodes' in
-    malformed _ _ (sym (not-true c.go_over-found.result.fits c.if-not-found.true) ∙ fitting)
+    malformed _ _ (sym (not-true c.go_over-found.result.fits c.if-not-found.true) ∙ fits)
 
 pub returns : goal.returns
 returns c =
     let ws = c.args.words.now in
     let h = sym c.head_fits.ensures ∙ c.if-not-head_fits.false in
     let l = c.if-words-a.false ∙ words_long ws c.process_start-a.ensures.0 c.nodes_width.ensures in
-    let r = (head-facts _ h).params in
-    let nodes' =
-    c.go_over-found.ensures.fits _ _ r.processes.0 (omega (arith, r.processes.1)) (omega (arith, c.shared_slice_known-1.given clock_word))
+    let small : (shape.head.get ws).clock ≤ any_word = omega (arith, c.type_inv.words clock_word) in
+    let fits =
+    found-fits ws h l c.process_start-a.ensures.0 small c.processes_faults-faults.ensures c.go_over-found.ensures.fits
     c.node_limits-limits.ensures in
-    let fitting = found-fits ws h l c.process_start-a.ensures.0 _ _ c.processes_faults-faults.ensures nodes' in
     let good = not-false c.go_over-found.result.fits c.if-not-found.false in
-    c.pair.ensures.0 ∙ counted _ _ _ fitting good (counting ws c.process_start-a.ensures.0 _ _ _ c.go_over-found.ensures.counted good)
+    c.pair.ensures.0 ∙ counted _ _ _ fits good (counting ws c.process_start-a.ensures.0 _ _ _ c.go_over-found.ensures.counted good)

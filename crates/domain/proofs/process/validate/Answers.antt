@@ -11,7 +11,5 @@ validate-requires c =
 
 pub returns : goal.returns
 returns c =
-    let at_place = c in
-    let start = at_place in
-    let h = start.requires in
-    process-returned h.0 h.1 at_place.place_of-at.ensures (λ x. validating x start.args.h.0) _ c.validate.ensures
+    let h = c.requires in
+    process-returned h.0 h.1 c.place_of-at.ensures (λ x. validating x c.args.h.0) _ c.validate.ensures

@@ -11,17 +11,15 @@ loop-p-init c = starts c.requires c.bounds-n.ensures
 
 pub returns-then-lead : goal.returns-then-lead
 returns-then-lead c =
-    let at-lead = c in
-    fails at-lead.loop-p.invariant at-lead.loop-p-test.true
-    (sym (λ t. implies (eqb (at-lead.lead-lead.ensures t).present 1) (eqb (at-lead.lead-lead.ensures t).presence 1))
-    ∙ unmet (eqb at-lead.lead-lead.result.present 1) (eqb at-lead.lead-lead.result.presence 1) c.if-lead.true)
+    fails c.loop-p.invariant c.loop-p-test.true
+    (sym (λ t. implies (eqb (c.lead-lead.ensures t).present 1) (eqb (c.lead-lead.ensures t).presence 1))
+    ∙ unmet (eqb c.lead-lead.result.present 1) (eqb c.lead-lead.result.presence 1) c.if-lead.true)
 
 pub loop-p-preserved : goal.loop-p-preserved
 loop-p-preserved c =
-    let at-lead = c in
-    turn at-lead.loop-p.invariant at-lead.loop-p-test.true
-    (sym (met (eqb at-lead.lead-lead.result.present 1) (eqb at-lead.lead-lead.result.presence 1) c.if-lead.false)
-    ∙ (λ t. implies (eqb (at-lead.lead-lead.ensures t).present 1) (eqb (at-lead.lead-lead.ensures t).presence 1)))
+    turn c.loop-p.invariant c.loop-p-test.true
+    (sym (met (eqb c.lead-lead.result.present 1) (eqb c.lead-lead.result.presence 1) c.if-lead.false)
+    ∙ (λ t. implies (eqb (c.lead-lead.ensures t).present 1) (eqb (c.lead-lead.ensures t).presence 1)))
 
 pub returns : goal.returns
 returns c = ends c.loop-p.invariant c.loop-p-test.false

@@ -11,19 +11,17 @@ loop-q-init c = starts c.requires c.bounds-n.ensures
 
 pub returns-then-lead-epoch : goal.returns-then-lead-epoch
 returns-then-lead-epoch c =
-    let at-lead = c in
-    let global = at-lead.epoch-epoch in
-    fails at-lead.loop-q.invariant at-lead.loop-q-test.true
-    (sym (λ t. implies (eqb (at-lead.lead-lead.ensures t).present 1) (eqb (at-lead.lead-lead.ensures t).epoch (global.ensures t)))
-    ∙ unmet (eqb at-lead.lead-lead.result.present 1) (eqb at-lead.lead-lead.result.epoch global.result) c.if-lead-epoch.true)
+    let global = c.epoch-epoch in
+    fails c.loop-q.invariant c.loop-q-test.true
+    (sym (λ t. implies (eqb (c.lead-lead.ensures t).present 1) (eqb (c.lead-lead.ensures t).epoch (global.ensures t)))
+    ∙ unmet (eqb c.lead-lead.result.present 1) (eqb c.lead-lead.result.epoch global.result) c.if-lead-epoch.true)
 
 pub loop-q-preserved : goal.loop-q-preserved
 loop-q-preserved c =
-    let at-lead = c in
-    let global = at-lead.epoch-epoch in
-    turn at-lead.loop-q.invariant at-lead.loop-q-test.true
-    (sym (met (eqb at-lead.lead-lead.result.present 1) (eqb at-lead.lead-lead.result.epoch global.result) c.if-lead-epoch.false)
-    ∙ (λ t. implies (eqb (at-lead.lead-lead.ensures t).present 1) (eqb (at-lead.lead-lead.ensures t).epoch (global.ensures t))))
+    let global = c.epoch-epoch in
+    turn c.loop-q.invariant c.loop-q-test.true
+    (sym (met (eqb c.lead-lead.result.present 1) (eqb c.lead-lead.result.epoch global.result) c.if-lead-epoch.false)
+    ∙ (λ t. implies (eqb (c.lead-lead.ensures t).present 1) (eqb (c.lead-lead.ensures t).epoch (global.ensures t))))
 
 pub returns : goal.returns
 returns c = ends c.loop-q.invariant c.loop-q-test.false

@@ -7,11 +7,7 @@ loop-p-init c = starts c.requires c.bounds-n.ensures
 
 pub loop-p-preserved : goal.loop-p-preserved
 loop-p-preserved c =
-    let at_set = c in
-    let at-lead = at_set in
-    let at_test = at-lead in
-    let at-loop = at_test in
-    turn at-loop.loop-p.invariant at_test.loop-p-test.true at_set.set_lead.auto.words at-lead.lead-lead.ensures at_set.set_lead.ensures
+    turn c.loop-p.invariant c.loop-p-test.true c.set_lead.auto.words c.lead-lead.ensures c.set_lead.ensures
 
 pub returns : goal.returns
 returns c = ends c.loop-p.invariant c.loop-p-test.false

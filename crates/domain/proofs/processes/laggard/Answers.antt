@@ -10,21 +10,19 @@ loop-p-init c = look-starts c.requires c.bounds-n.ensures
 
 pub returns-then-l-epoch : goal.returns-then-l-epoch
 returns-then-l-epoch c =
-    let at-lead = c in
-    let global = at-lead.epoch-epoch in
-    let x = at-lead.lead-l.result in
+    let global = c.epoch-epoch in
+    let x = c.lead-l.result in
     let tested : (eqb x.present 1 && not (eqb x.epoch global.result)) ≡ true = c.if-l-epoch.true in
-    look-found at-lead.loop-p.invariant at-lead.loop-p-test.true
-    (sym (λ t. eqb (at-lead.lead-l.ensures t).present 1 && not (eqb (at-lead.lead-l.ensures t).epoch (global.ensures t))) ∙ tested)
+    look-found c.loop-p.invariant c.loop-p-test.true
+    (sym (λ t. eqb (c.lead-l.ensures t).present 1 && not (eqb (c.lead-l.ensures t).epoch (global.ensures t))) ∙ tested)
 
 pub loop-p-preserved : goal.loop-p-preserved
 loop-p-preserved c =
-    let at-lead = c in
-    let global = at-lead.epoch-epoch in
-    let x = at-lead.lead-l.result in
+    let global = c.epoch-epoch in
+    let x = c.lead-l.result in
     let tested : (eqb x.present 1 && not (eqb x.epoch global.result)) ≡ false = c.if-l-epoch.false in
-    look-turn at-lead.loop-p.invariant at-lead.loop-p-test.true
-    (sym (λ t. eqb (at-lead.lead-l.ensures t).present 1 && not (eqb (at-lead.lead-l.ensures t).epoch (global.ensures t))) ∙ tested)
+    look-turn c.loop-p.invariant c.loop-p-test.true
+    (sym (λ t. eqb (c.lead-l.ensures t).present 1 && not (eqb (c.lead-l.ensures t).epoch (global.ensures t))) ∙ tested)
 
 pub returns : goal.returns
 returns c = look-ends c.loop-p.invariant c.loop-p-test.false

@@ -12,10 +12,6 @@ young-requires c =
 pub returns : goal.returns
 unfolding decode_by
 returns c =
-    let at_place = c in
-    let at-delay = at_place in
-    let at-clock = at-delay in
-    let start = at-clock in
-    let h = start.requires in
+    let h = c.requires in
     c.young.ensures
-    ∙ young-held (decode start.args.words.now) at-clock.clock-clock.ensures at-delay.delay-delay.ensures (lent-process h.0 h.1 at_place.place_of-at.ensures)
+    ∙ young-held (decode c.args.words.now) c.clock-clock.ensures c.delay-delay.ensures (lent-process h.0 h.1 c.place_of-at.ensures)

@@ -11,16 +11,12 @@ returns-then-bytes-gt-BYTES c =
 
 pub returns-then-marked : goal.returns-then-marked
 returns-then-marked c =
-    let way = c in
-    let marked = way in
-    let a = marked.args in
-    let mark = marked.marked in
-    c.in_book.ensures ∙ in_book_lem a.card a.bytes.now mark.result mark.ensures (omega arith) way.if-marked.true
+    let a = c.args in
+    let mark = c.marked in
+    c.in_book.ensures ∙ in_book_lem a.card a.bytes.now mark.result mark.ensures (omega arith) c.if-marked.true
 
 pub returns : goal.returns
 returns c =
-    let way = c in
-    let marked = way in
-    let a = marked.args in
-    let mark = marked.marked in
-    c.in_words.ensures ∙ in_words_lem a.card a.bytes.now mark.result mark.ensures (omega arith) way.if-marked.false
+    let a = c.args in
+    let mark = c.marked in
+    c.in_words.ensures ∙ in_words_lem a.card a.bytes.now mark.result mark.ensures (omega arith) c.if-marked.false

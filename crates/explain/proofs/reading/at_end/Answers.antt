@@ -9,7 +9,6 @@ explain-requires c = c.run_to_end.ensures.0
 
 pub returns : goal.returns
 returns c =
-    let run = c in
-    let a = run.args in
+    let a = c.args in
     let t = led_from a.bytes.now (header_value a.header) in
-    at-end a.card _ t _ c.explain.ensures run.run_to_end.ensures.1
+    at-end a.card _ t _ c.explain.ensures c.run_to_end.ensures.1

@@ -11,16 +11,12 @@ in_found-requires c = sym c.open_trace-opened.ensures ∙ ap opened_value c.in-F
 
 pub returns-in-Found : goal.returns-in-Found
 returns-in-Found c =
-    let known = c in
-    let opened = known in
-    let a = opened.args in
-    let found = sym opened.open_trace-opened.ensures ∙ ap opened_value known.in-Found.is in
+    let a = c.args in
+    let found = sym c.open_trace-opened.ensures ∙ ap opened_value c.in-Found.is in
     c.in_found.ensures ∙ in-found a.card a.bytes.now _ found
 
 pub returns-in_default : goal.returns-in_default
 returns-in_default c =
-    let arm = c in
-    let opened = arm in
-    let a = opened.args in
-    let number = ap refused c.refusal.ensures ∙ numbered opened.open_trace-opened.result arm.in_default.not-Found in
-    in-refused a.card a.bytes.now _ (number ∙ opened.open_trace-opened.ensures)
+    let a = c.args in
+    let number = ap refused c.refusal.ensures ∙ numbered c.open_trace-opened.result c.in_default.not-Found in
+    in-refused a.card a.bytes.now _ (number ∙ c.open_trace-opened.ensures)

@@ -7,6 +7,5 @@ use Rattle.explain.proofs.reading.of_words.Goals as goal
 
 pub returns : goal.returns
 returns c =
-    let put = c in
-    let card = put.args.card in
-    c.why.ensures ∙ ap (λ (ws : List ℕ). why_words ws card) put.put_words.ensures
+    let card = c.args.card in
+    c.why.ensures ∙ ap (λ (ws : List ℕ). why_words ws card) c.put_words.ensures

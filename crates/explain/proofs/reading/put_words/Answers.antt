@@ -11,10 +11,9 @@ loop-i-init c = (omega arith, refl, λ j l. absurd (omega arith))
 
 pub loop-i-preserved : goal.loop-i-preserved
 loop-i-preserved c =
-    let at-loop = c in
-    let bs = at-loop.args.bytes.now in
-    let inv = at-loop.loop-i.invariant in
-    let more = filled_more bs at-loop.loop-i.words at-loop.loop-i.i _ inv.2 (omega arith) c.word_at.ensures in
+    let bs = c.args.bytes.now in
+    let inv = c.loop-i.invariant in
+    let more = filled_more bs c.loop-i.words c.loop-i.i _ inv.2 (omega arith) c.word_at.ensures in
     (simp length-set (omega arith), simp length-set inv.1, more)
 
 pub returns : goal.returns

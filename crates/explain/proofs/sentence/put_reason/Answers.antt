@@ -12,10 +12,7 @@ told e = sym (ap (λ r. reason_text (reason_value r)) e)
 
 pub returns-in-NotRetired : goal.returns-in-NotRetired
 returns-in-NotRetired c =
-    let second = c in
-    let first = second in
-    let arm = first in
-    as-text (further (exactly first.put_bytes-at.ensures) second.put_state.ensures) (told arm.in-NotRetired.is) (omega arith)
+    as-text (further (exactly c.put_bytes-at.ensures) c.put_state.ensures) (told c.in-NotRetired.is) (omega arith)
 
 pub returns-in-Young : goal.returns-in-Young
 returns-in-Young c = as-text c.put_young.ensures (told c.in-Young.is) (omega arith)

@@ -18,8 +18,7 @@ put_refused-requires c = omega (arith, ten-most c.in-Refused.refusal)
 pub returns-in-Refused : goal.returns-in-Refused
 unfolding sentence
 returns-in-Refused c =
-    let arm = c in
-    said (exactly c.put_refused.ensures) (omega (arith, ten-most arm.in-Refused.refusal)) (omega arith) (told _ arm.in-Refused.is)
+    said (exactly c.put_refused.ensures) (omega (arith, ten-most c.in-Refused.refusal)) (omega arith) (told _ c.in-Refused.is)
 
 pub returns-in-Told : goal.returns-in-Told
 unfolding sentence

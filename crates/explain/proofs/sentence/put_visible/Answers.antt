@@ -4,12 +4,7 @@ use Rattle.explain.proofs.sentence.put_visible.Goals as goal
 
 pub returns : goal.returns
 returns c =
-    let fifth = c in
-    let fourth = fifth in
-    let third = fourth in
-    let second = third in
-    let first = second in
-    let upto-second = further (exactly first.put_bytes-at.ensures) second.put_number-at.ensures in
-    let upto-third = further upto-second (exactly third.put_bytes-at-2.ensures) in
-    let upto-fourth = further upto-third fourth.put_number-at-2.ensures in
-    further upto-fourth (exactly fifth.put_bytes.ensures)
+    let upto-second = further (exactly c.put_bytes-at.ensures) c.put_number-at.ensures in
+    let upto-third = further upto-second (exactly c.put_bytes-at-2.ensures) in
+    let upto-fourth = further upto-third c.put_number-at-2.ensures in
+    further upto-fourth (exactly c.put_bytes.ensures)

@@ -8,9 +8,8 @@ use Rattle.layout.proofs.fresh.in_range.Goals as goal
 pub returns : goal.returns
 unfolding in_range
 returns c =
-    let at-sizes = c in
-    λ t. at-sizes.sizes_in_range.ensures t
+    λ t. c.sizes_in_range.ensures t
     && (c.up_to.ensures t
     && (c.up_to-2.ensures t
     && (c.up_to-3.ensures t
-    && leb at-sizes.args.params.lateness most_lateness)))
+    && leb c.args.params.lateness most_lateness)))

@@ -13,60 +13,44 @@ use Rattle.layout.specs.Values.{params_value}
 use Rattle.layout.proofs.FreshWords.{param_words, present_to, present-next, present-all, fresh-words}
 use Rattle.layout.proofs.fresh.write_fresh.Goals as goal
 
--- src/fresh.rt:56:5
 pub bounds-words-1 : goal.bounds-words-1
 bounds-words-1 c = simp length-set (omega arith)
 
--- src/fresh.rt:57:5
 pub bounds-words-2 : goal.bounds-words-2
 bounds-words-2 c = simp length-set (omega arith)
 
--- src/fresh.rt:58:5
 pub bounds-words-3 : goal.bounds-words-3
 bounds-words-3 c = simp length-set (omega arith)
 
--- src/fresh.rt:59:5
 pub bounds-words-4 : goal.bounds-words-4
 bounds-words-4 c = simp length-set (omega arith)
 
--- src/fresh.rt:60:5
 pub bounds-words-5 : goal.bounds-words-5
 bounds-words-5 c = simp length-set (omega arith)
 
--- src/fresh.rt:61:5
 pub bounds-words-6 : goal.bounds-words-6
 bounds-words-6 c = simp length-set (omega arith)
 
--- src/fresh.rt:63:5
 pub loop-p-init : goal.loop-p-init
 loop-p-init c = (omega arith, simp length-set (omega arith), refl)
 
--- src/fresh.rt:64:9
 pub bounds-words-process_start : goal.bounds-words-process_start
 bounds-words-process_start c =
-    let turn = c in
-    let start = c in
-    let a = start.args.params in
-    let at = below turn.loop-p.p a.processes (process_width shape a.hazards) (omega arith) in
-    omega (arith, turn.loop-p.invariant.1, at, c.process_start.ensures.0)
+    let a = c.args.params in
+    let at = below c.loop-p.p a.processes (process_width shape a.hazards) (omega arith) in
+    omega (arith, c.loop-p.invariant.1, at, c.process_start.ensures.0)
 
--- src/fresh.rt:63:5
 pub loop-p-preserved : goal.loop-p-preserved
 loop-p-preserved c =
-    let turn = c in
-    (omega arith, simp length-set (omega (arith, turn.loop-p.invariant.1)), present-next _ _ _ _ _ turn.loop-p.invariant.2 c.process_start.ensures.0)
+    (omega arith, simp length-set (omega (arith, c.loop-p.invariant.1)), present-next _ _ _ _ _ c.loop-p.invariant.2 c.process_start.ensures.0)
 
--- src/fresh.rt:50:1
 pub shape_of-words : goal.shape_of-words
 shape_of-words c = c.loop-p.invariant.1 ∙ sym c.requires.1
 
--- src/fresh.rt:50:1
 pub returns : goal.returns
 returns c =
-    let turn = c in
-    let start = c in
-    let a = params_value start.args.params in
-    let e : turn.loop-p.p ≡ a.processes = omega arith in
-    present-all _ _ _ _ _ turn.loop-p.invariant.2 e
+    let a = params_value c.args.params in
+    let e : c.loop-p.p ≡ a.processes = omega arith in
+    present-all _ _ _ _ _ c.loop-p.invariant.2 e
     ∙ ap (λ (z : List ℕ). present_to a.hazards a.processes (sets z 0 (param_words a))) c.clear.ensures
-    ∙ fresh-words a _ start.requires.1
+    ∙ fresh-words a _ c.requires.1

@@ -8,7 +8,6 @@ use Rattle.nodes.proofs.counts.under_way.Goals as goal
 
 pub returns : goal.returns
 returns c =
-    let start = c in
-    let owner = word_at start.requires.0 start.requires.1 c.offset-at.ensures.0 1 (omega arith) in
+    let owner = word_at c.requires.0 c.requires.1 c.offset-at.ensures.0 1 (omega arith) in
     let state = c.state_of-state.ensures in
-    λ t. (eqb (state t) Allocated || eqb (state t) Removed) && eqb (owner t) start.args.p.0
+    λ t. (eqb (state t) Allocated || eqb (state t) Removed) && eqb (owner t) c.args.p.0

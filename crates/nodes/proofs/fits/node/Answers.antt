@@ -5,9 +5,6 @@ use Rattle.nodes.proofs.fits.node.Goals as goal
 
 pub returns : goal.returns
 returns c =
-    let at_offset = c in
-    let at-state-of = at_offset in
-    let start = at-state-of in
-    let a = start.args in
-    node-none a.nodes.now a.limits.now a.m a.c.0 _ _ _ (none a.faults) _ at-state-of.state_of-state.ensures
-    at_offset.offset-at.ensures.0 c.wide.ensures.0 c.row.ensures
+    let a = c.args in
+    node-none a.nodes.now a.limits.now a.m a.c.0 _ _ _ (none a.faults) _ c.state_of-state.ensures
+    c.offset-at.ensures.0 c.wide.ensures.0 c.row.ensures

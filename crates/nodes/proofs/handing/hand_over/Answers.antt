@@ -27,9 +27,8 @@ loop-i-init c = starts c.requires
 
 pub pass-requires : goal.pass-requires
 pass-requires c =
-    let at_test = c in
     let its = sym c.retired_by.ensures ∙ c.if-retired_by.true in
-    (at_test.loop-i.invariant.part, at_test.loop-i-test.true, eqb-true _ _ (both _ _ its).0)
+    (c.loop-i.invariant.part, c.loop-i-test.true, eqb-true _ _ (both _ _ its).0)
 
 pub loop-i-preserved : goal.loop-i-preserved
 loop-i-preserved c =

@@ -31,5 +31,4 @@ bounds-nodes-at-3 c = simp length-set (omega arith)
 
 pub returns : goal.returns
 returns c =
-    let start = c in
-    passed start.requires.0 start.requires.1 c.offset-at.ensures.0 start.requires.2 start.args.q.0 start.args.time start.args.epoch
+    passed c.requires.0 c.requires.1 c.offset-at.ensures.0 c.requires.2 c.args.q.0 c.args.time c.args.epoch

@@ -16,33 +16,23 @@ few e f h = omega arith
 
 pub bounds-weights-wide : goal.bounds-weights-wide
 bounds-weights-wide c =
-    let start = c in
-    search (rules, few c.wide.ensures.0 c.state_of.ensures c.requires.part.2, ap length start.requires.limits_len.1)
+    search (rules, few c.wide.ensures.0 c.state_of.ensures c.requires.part.2, ap length c.requires.limits_len.1)
 
 pub overflow_add-reachable : goal.overflow_add-reachable
 overflow_add-reachable c =
-    let start = c in
-    search (rules, light c.wide.result start.requires.limits_len.1 (few c.wide.ensures.0 c.state_of.ensures c.requires.part.2))
+    search (rules, light c.wide.result c.requires.limits_len.1 (few c.wide.ensures.0 c.state_of.ensures c.requires.part.2))
 
 pub returns-then-counting : goal.returns-then-counting
 returns-then-counting c x g =
-    let at_wide = c in
-    let at-state-of = at_wide in
-    let at-node = at-state-of in
-    let at_first = at-node in
-    let start = at_first in
-    let a = start.args in
+    let a = c.args in
     let n = node_in a.m a.nodes.now a.c.0 in
-    let weighed = weight-counts n at-state-of.if-counting.true start.requires.limits_len.1 at_wide.wide.ensures.0 at-state-of.state_of.ensures
-    start.requires.part.2 in
-    goes_on_lem start.requires.part.0 start.requires.part.1 start.requires.part.2 (λ j. omega (arith, at_first.shared_slice_known-1.given j)) at-node.node-faults.ensures
+    let weighed = weight-counts n c.if-counting.true c.requires.limits_len.1 c.wide.ensures.0 c.state_of.ensures
+    c.requires.part.2 in
+    goes_on_lem c.requires.part.0 c.requires.part.1 c.requires.part.2 (λ j. omega (arith, c.shared_slice_known-1.given j)) c.node-faults.ensures
     weighed refl g
 
 pub returns-else-counting : goal.returns-else-counting
 returns-else-counting c x g =
-    let at-node = c in
-    let at_first = at-node in
-    let start = at_first in
-    let a = start.args in
-    goes_on_lem start.requires.part.0 start.requires.part.1 start.requires.part.2 (λ j. omega (arith, at_first.shared_slice_known-1.given j)) at-node.node-faults.ensures
+    let a = c.args in
+    goes_on_lem c.requires.part.0 c.requires.part.1 c.requires.part.2 (λ j. omega (arith, c.shared_slice_known-1.given j)) c.node-faults.ensures
     (none-counts (node_in a.m a.nodes.now a.c.0) c.if-counting.false) (sym (add-zero a.known.reachable)) g

@@ -10,19 +10,13 @@ loop-i-init c = (omega arith, starts refl)
 
 pub returns-then-state_of-gt-RETIRED : goal.returns-then-state_of-gt-RETIRED
 returns-then-state_of-gt-RETIRED c =
-    let in-loop = c in
-    let start = in-loop in
-    stops start.requires.0 in-loop.loop-i-test.true (omega arith)
+    stops c.requires.0 c.loop-i-test.true (omega arith)
 
 pub further-known-requires : goal.further-known-requires
 further-known-requires c =
-    let past-state = c in
-    let at-state-of = past-state in
-    let in-loop = at-state-of in
-    let at-weights = in-loop in
-    let start = at-weights in record {
-      part = (start.requires.0, in-loop.loop-i-test.true, omega (arith, at-state-of.state_of.ensures, past-state.if-state_of-gt-RETIRED.false));
-      limits_len = (start.requires.1, at-weights.weights-weights.ensures, few in-loop.loop-i.invariant.1);
+    record {
+      part = (c.requires.0, c.loop-i-test.true, omega (arith, c.state_of.ensures, c.if-state_of-gt-RETIRED.false));
+      limits_len = (c.requires.1, c.weights-weights.ensures, few c.loop-i.invariant.1);
     }
 
 pub loop-i-preserved : goal.loop-i-preserved
@@ -30,12 +24,8 @@ loop-i-preserved c = (omega arith, c.further-known.ensures _ c.loop-i.invariant.
 
 pub returns-then-fits : goal.returns-then-fits
 returns-then-fits c =
-    let at-is-clean = c in
-    let at-loop = at-is-clean in
-    ends {i = at-loop.loop-i.i} (omega arith) at-loop.loop-i.invariant.1 at-is-clean.is_clean-fits.ensures (rw c.if-fits.true)
+    ends {i = c.loop-i.i} (omega arith) c.loop-i.invariant.1 c.is_clean-fits.ensures (rw c.if-fits.true)
 
 pub returns-else-fits : goal.returns-else-fits
 returns-else-fits c =
-    let at-is-clean = c in
-    let at-loop = at-is-clean in
-    ends {i = at-loop.loop-i.i} (omega arith) at-loop.loop-i.invariant.1 at-is-clean.is_clean-fits.ensures (rw c.if-fits.false)
+    ends {i = c.loop-i.i} (omega arith) c.loop-i.invariant.1 c.is_clean-fits.ensures (rw c.if-fits.false)

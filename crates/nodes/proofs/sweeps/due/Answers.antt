@@ -11,11 +11,8 @@ use Rattle.nodes.proofs.sweeps.due.Goals as goal
 
 pub returns : goal.returns
 returns c =
-    let at-retired = c in
-    let at_offset = at-retired in
-    let start = at_offset in
-    let a = start.args in
-    let h = start.requires in
-    let retired = word_at h.0 h.1 at_offset.offset-at.ensures.0 3 (omega arith) in
+    let a = c.args in
+    let h = c.requires in
+    let retired = word_at h.0 h.1 c.offset-at.ensures.0 3 (omega arith) in
     let place = add-one _ ∙ ap suc c.wide.ensures.0 in
-    λ t. at-retired.retired_by.ensures t && (ltb (retired t) a.limit && not (get_or a.marks.now (place t) false))
+    λ t. c.retired_by.ensures t && (ltb (retired t) a.limit && not (get_or a.marks.now (place t) false))

@@ -16,18 +16,12 @@ overflow_cast-c c = search (rules, place-below c.requires.1 c.loop-j-test.true c
 
 pub free-requires : goal.free-requires
 free-requires c =
-    let at-loop = c in
-    let start = at-loop in
-    (at-loop.loop-j.invariant.part, place-below start.requires.1 c.loop-j-test.true c.wide.ensures.0)
+    (c.loop-j.invariant.part, place-below c.requires.1 c.loop-j-test.true c.wide.ensures.0)
 
 pub loop-j-preserved : goal.loop-j-preserved
 loop-j-preserved c =
-    let at_wide = c in
-    let at_test = at_wide in
-    let at-loop = at_test in
-    let start = at-loop in
-    let same = ap (λ (i : ℕ). get_or start.args.places.now i 0) at_wide.wide.ensures.0 in
-    rw add-one (frees-more at-loop.loop-j.invariant start.requires.1 at_test.loop-j-test.true same c.free.ensures)
+    let same = ap (λ (i : ℕ). get_or c.args.places.now i 0) c.wide.ensures.0 in
+    rw add-one (frees-more c.loop-j.invariant c.requires.1 c.loop-j-test.true same c.free.ensures)
 
 pub returns : goal.returns
 returns c = frees_all c.loop-j.invariant c.loop-j-test.false

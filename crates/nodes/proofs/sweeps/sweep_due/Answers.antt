@@ -17,15 +17,14 @@ loop-i-init c =
 
 pub loop-i-preserved : goal.loop-i-preserved
 loop-i-preserved c =
-    let at-loop = c in
-    let a = at-loop.args in
+    let a = c.args in
     let test = due_unmarked a.p.0 a.limit a.marks.now in
-    let inv = at-loop.loop-i.invariant in
+    let inv = c.loop-i.invariant in
     let below = c.loop-i-test.true in (
       search rules,
       rw (add-one, c.note-count.ensures.0, c.note-count.ensures.1)
           (notes-more inv.1 (omega arith)
-          (between-yes test a.from a.to at-loop.loop-i.i (node_in a.m a.nodes.now at-loop.loop-i.i) inv.0 below c.due-is_due.ensures)),
+          (between-yes test a.from a.to c.loop-i.i (node_in a.m a.nodes.now c.loop-i.i) inv.0 below c.due-is_due.ensures)),
     )
 
 pub free_noted-requires : goal.free_noted-requires
@@ -33,7 +32,6 @@ free_noted-requires c = let inv = c.loop-i.invariant in (inv.1.part, noted inv.1
 
 pub returns : goal.returns
 returns c =
-    let at-loop = c in
-    let a = at-loop.args in
-    notes-rest (due_unmarked a.p.0 a.limit a.marks.now) a.from a.to at-loop.loop-i.invariant.1
+    let a = c.args in
+    notes-rest (due_unmarked a.p.0 a.limit a.marks.now) a.from a.to c.loop-i.invariant.1
     c.loop-i-test.false c.free_noted.ensures

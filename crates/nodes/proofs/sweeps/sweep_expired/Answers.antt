@@ -10,10 +10,8 @@ loop-i-init c = notes-none c.requires refl
 
 pub loop-i-preserved : goal.loop-i-preserved
 loop-i-preserved c =
-    let at_test = c in
-    let at-loop = at_test in
     rw (add-one, c.note-count.ensures.0, c.note-count.ensures.1)
-    (notes-more at-loop.loop-i.invariant at_test.loop-i-test.true c.expired-is_expired.ensures)
+    (notes-more c.loop-i.invariant c.loop-i-test.true c.expired-is_expired.ensures)
 
 pub free_noted-requires : goal.free_noted-requires
 free_noted-requires c = (c.loop-i.invariant.part, noted c.loop-i.invariant)

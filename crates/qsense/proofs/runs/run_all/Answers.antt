@@ -11,21 +11,15 @@ loop-i-init c = (omega arith, refl, going_start _ _ _ _ _ c.well_formed-good.ens
 
 pub run_step-requires : goal.run_step-requires
 run_step-requires c =
-    let at-loop = c in
-    let start = at-loop in
-    let going = at-loop.loop-i.invariant.2 in
-    (going.good, (omega (arith, start.requires), omega (arith, going.long, start.requires)))
+    let going = c.loop-i.invariant.2 in
+    (going.good, (omega (arith, c.requires), omega (arith, going.long, c.requires)))
 
 pub loop-i-preserved : goal.loop-i-preserved
 loop-i-preserved c =
-    let at-run-step = c in
-    let at-loop = at-run-step in
-    let start = at-loop in
-    let going = at-loop.loop-i.invariant.2 in
-    (omega arith, search rules, going_on _ _ _ _ _ _ _ _ _ _ (omega arith) (omega (arith, start.requires)) going at-run-step.run_step.ensures)
+    let going = c.loop-i.invariant.2 in
+    (omega arith, search rules, going_on _ _ _ _ _ _ _ _ _ _ (omega arith) (omega (arith, c.requires)) going c.run_step.ensures)
 
 pub returns : goal.returns
 returns c =
-    let start = c in
-    let all : c.loop-i.i ≡ start.args.count = omega arith in
-    going_end _ _ _ _ _ _ _ _ all start.requires.1 c.loop-i.invariant.2
+    let all : c.loop-i.i ≡ c.args.count = omega arith in
+    going_end _ _ _ _ _ _ _ _ all c.requires.1 c.loop-i.invariant.2

@@ -4,5 +4,4 @@ use Rattle.qsense.proofs.two_passes.agree.Goals as goal
 
 pub returns : goal.returns
 returns c =
-    let at-two = c in
-    alike at-two.reachable-one.result at-two.reachable-two.result at-two.reachable-one.ensures at-two.reachable-two.ensures
+    alike c.reachable-one.result c.reachable-two.result c.reachable-one.ensures c.reachable-two.ensures

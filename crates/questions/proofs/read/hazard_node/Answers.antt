@@ -8,9 +8,8 @@ use Rattle.questions.proofs.read.hazard_node.Goals as goal
 
 pub node-requires : goal.node-requires
 node-requires c =
-    let start = c in
-    let below = target_below start.requires _ _ c.hazard.ensures in
-    (start.requires, subst (λ n. n < (params_in start.args.words.now).nodes) (sym c.stored-node.ensures) below)
+    let below = target_below c.requires _ _ c.hazard.ensures in
+    (c.requires, subst (λ n. n < (params_in c.args.words.now).nodes) (sym c.stored-node.ensures) below)
 
 pub returns : goal.returns
 returns c =

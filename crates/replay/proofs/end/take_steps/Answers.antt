@@ -14,14 +14,10 @@ loop-i-init c = (omega arith, refl, towards-start _ _ _ _ (search rules))
 
 pub loop-i-preserved : goal.loop-i-preserved
 loop-i-preserved c =
-    let known = c in
-    let at = known in
-    let wide = at in
-    let at-loop = wide in
-    let a = at-loop.args in
-    let next = at.step_at-step.ensures.0 ∙ ap (λ (n : ℕ). step_at a.bytes.now (a.first + 12 * n)) wide.wide.ensures.0 in
-    let towards = at-loop.loop-i.invariant.2 in
-    let stepped = known.step_known.ensures in (
+    let a = c.args in
+    let next = c.step_at-step.ensures.0 ∙ ap (λ (n : ℕ). step_at a.bytes.now (a.first + 12 * n)) c.wide.ensures.0 in
+    let towards = c.loop-i.invariant.2 in
+    let stepped = c.step_known.ensures in (
       omega arith,
       search rules,
       towards-on _ _ _ _ _ _ _ (omega arith) next _ towards stepped.sound (after_is _ towards.sound _ _ _ _ stepped),

@@ -17,6 +17,5 @@ mark_seen-requires c =
 
 pub returns : goal.returns
 returns c =
-    let start = c in
     let at = c.place_of-at.ensures in
-    lent-marked start.requires.0 true start.requires.1 at start.args.marks.now c.mark_seen.ensures.marks_after
+    lent-marked c.requires.0 true c.requires.1 at c.args.marks.now c.mark_seen.ensures.marks_after

@@ -11,6 +11,5 @@ mark_row-requires c =
 
 pub returns : goal.returns
 returns c =
-    let start = c in
     let at = c.place_of-at.ensures in
-    lent-marked start.requires.0 false start.requires.1 at start.args.marks.now c.mark_row.ensures
+    lent-marked c.requires.0 false c.requires.1 at c.args.marks.now c.mark_row.ensures

@@ -19,15 +19,13 @@ loop-at-init c = (omega arith, refl, starts)
 
 pub mark-requires : goal.mark-requires
 mark-requires c =
-    let at-loop = c in
-    let start = at-loop in
-    let h = at-loop.loop-at.h in
-    let at = start.args.at in
-    let vs = map (λ y. y.visible) (process_at at.k start.args.row.now).hazards in
-    let few = hazards-length at.k start.args.row.now in
+    let h = c.loop-at.h in
+    let at = c.args.at in
+    let vs = map (λ y. y.visible) (process_at at.k c.args.row.now).hazards in
+    let few = hazards-length at.k c.args.row.now in
     let e = ap (λ y. y.visible) c.hazard-hazard.ensures in
-    let shown = get_or-map (λ y. y.visible) (process_at at.k start.args.row.now).hazards h empty_hazard in
-    omega (arith, e, shown, all-at (λ v. v ≤ most_nodes) vs h 0 start.requires.1 (simp length-map (omega (arith, few))))
+    let shown = get_or-map (λ y. y.visible) (process_at at.k c.args.row.now).hazards h empty_hazard in
+    omega (arith, e, shown, all-at (λ v. v ≤ most_nodes) vs h 0 c.requires.1 (simp length-map (omega (arith, few))))
 
 pub loop-at-preserved : goal.loop-at-preserved
 unfolding marking

@@ -9,12 +9,10 @@ use Rattle.retire.proofs.marks.mark_seen.Goals as goal
 
 pub mark_all-requires : goal.mark_all-requires
 mark_all-requires c =
-    let start = c in
     let seen = c.own.ensures in
-    subst (λ (vs : List ℕ). All (λ v. v ≤ most_nodes) vs) (sym seen) start.requires.1
+    subst (λ (vs : List ℕ). All (λ v. v ≤ most_nodes) vs) (sym seen) c.requires.1
 
 pub returns : goal.returns
 returns c =
-    let start = c in
     let seen = c.own.ensures in
-    record { marks_after = c.mark_all.ensures ∙ ap (marking start.args.marks.now) seen; nodes_after = seen }
+    record { marks_after = c.mark_all.ensures ∙ ap (marking c.args.marks.now) seen; nodes_after = seen }

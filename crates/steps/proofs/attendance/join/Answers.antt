@@ -7,16 +7,12 @@ use Rattle.steps.proofs.attendance.join.Goals as goal
 
 pub lead-lead-requires : goal.lead-lead-requires
 lead-lead-requires c =
-    let start = c in
-    (start.requires.0, process_in_lem Join start.args.words.now start.args.p.0 0 0 0 start.requires refl)
+    (c.requires.0, process_in_lem Join c.args.words.now c.args.p.0 0 0 0 c.requires refl)
 
 pub set_words-requires : goal.set_words-requires
 set_words-requires c =
-    let start = c in
-    (start.requires.0, process_in_lem Join start.args.words.now start.args.p.0 0 0 0 start.requires refl)
+    (c.requires.0, process_in_lem Join c.args.words.now c.args.p.0 0 0 0 c.requires refl)
 
 pub returns : goal.returns
 returns c =
-    let at-lead = c in
-    let start = at-lead in
-    joins start.args.words.now start.args.p.0 at-lead.lead-lead.ensures at-lead.epoch-epoch.ensures c.set_words.ensures
+    joins c.args.words.now c.args.p.0 c.lead-lead.ensures c.epoch-epoch.ensures c.set_words.ensures

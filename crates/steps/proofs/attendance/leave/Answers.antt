@@ -4,18 +4,16 @@ use Rattle.steps.proofs.attendance.leave.Goals as goal
 
 pub hand_over-requires : goal.hand_over-requires
 hand_over-requires c =
-    let start = c in (start.requires.0, second-in start.args.p.0 start.args.c.0 start.requires)
+    (c.requires.0, second-in c.args.p.0 c.args.c.0 c.requires)
 
 pub set_words-requires : goal.set_words-requires
 set_words-requires c =
-    let start = c in
-    let p = start.args.p.0 in
-    let q = start.args.c.0 in
+    let p = c.args.p.0 in
+    let q = c.args.c.0 in
     let handed = c.hand_over.ensures in
-    (sound-handed p q start.requires handed, process-handed p q start.requires handed)
+    (sound-handed p q c.requires handed, process-handed p q c.requires handed)
 
 pub returns : goal.returns
 returns c =
-    let start = c in
-    leaves start.args.p.0 start.args.c.0 start.requires c.hand_over.ensures
+    leaves c.args.p.0 c.args.c.0 c.requires c.hand_over.ensures
     c.set_words.ensures

@@ -13,9 +13,8 @@ clock-clock-requires c = c.requires.0
 
 pub overflow_add-clock : goal.overflow_add-clock
 overflow_add-clock c =
-    let start = c in
-    let ws = start.args.words.now in
-    omega (arith, (facts Tick ws 0 0 0 0 start.requires).clock refl, c.clock-clock.ensures)
+    let ws = c.args.words.now in
+    omega (arith, (facts Tick ws 0 0 0 0 c.requires).clock refl, c.clock-clock.ensures)
 
 pub set_clock-requires : goal.set_clock-requires
 set_clock-requires c = c.requires.0

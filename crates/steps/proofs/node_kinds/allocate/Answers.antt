@@ -12,15 +12,11 @@ use Rattle.steps.proofs.node_kinds.allocate.Goals as goal
 
 pub set_node-requires : goal.set_node-requires
 set_node-requires c =
-    let start = c in
-    let a = start.args in
-    (start.requires.0, node_in_lem Allocate a.words.now a.p.0 0 a.c.0 a.guest start.requires refl)
+    let a = c.args in
+    (c.requires.0, node_in_lem Allocate a.words.now a.p.0 0 a.c.0 a.guest c.requires refl)
 
 pub returns : goal.returns
 returns c =
-    let at-set-node = c in
-    let at-guest-read = at-set-node in
-    let start = at-guest-read in
-    let a = start.args in
+    let a = c.args in
     let node-for : ℕ → Node = λ guest. allocating (given 1 a.p.0 0 a.c.0 guest) in
-    (of-read node-for a.words.now a.c.0 at-guest-read.guest_read.ensures at-set-node.set_node.ensures, refl)
+    (of-read node-for a.words.now a.c.0 c.guest_read.ensures c.set_node.ensures, refl)

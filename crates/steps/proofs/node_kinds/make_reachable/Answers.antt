@@ -5,7 +5,6 @@ use Rattle.steps.proofs.node_kinds.make_reachable.Goals as goal
 
 pub returns : goal.returns
 returns c =
-    let start = c in
-    let ws = start.args.words.now in
-    let n = start.args.c.0 in
+    let ws = c.args.words.now in
+    let n = c.args.c.0 in
     of-read publishing ws n c.node-was.ensures c.set_node.ensures

@@ -6,6 +6,5 @@ use Rattle.steps.proofs.node_kinds.publish.Goals as goal
 
 pub make_reachable-requires : goal.make_reachable-requires
 make_reachable-requires c =
-    let start = c in
-    let a = start.args in
-    (start.requires.0, node_in_lem Publish a.words.now a.p.0 0 a.c.0 0 start.requires refl)
+    let a = c.args in
+    (c.requires.0, node_in_lem Publish a.words.now a.p.0 0 a.c.0 0 c.requires refl)

@@ -8,20 +8,17 @@ use Rattle.steps.proofs.node_kinds.remove.Goals as goal
 
 pub node-x-requires : goal.node-x-requires
 node-x-requires c =
-    let start = c in
-    let a = start.args in
-    (start.requires.0, node_in_lem Remove a.words.now a.p.0 0 a.c.0 0 start.requires refl)
+    let a = c.args in
+    (c.requires.0, node_in_lem Remove a.words.now a.p.0 0 a.c.0 0 c.requires refl)
 
 pub set_node-requires : goal.set_node-requires
 set_node-requires c =
-    let start = c in
-    let a = start.args in
-    (start.requires.0, node_in_lem Remove a.words.now a.p.0 0 a.c.0 0 start.requires refl)
+    let a = c.args in
+    (c.requires.0, node_in_lem Remove a.words.now a.p.0 0 a.c.0 0 c.requires refl)
 
 pub returns : goal.returns
 returns c =
-    let start = c in
-    let ws = start.args.words.now in
-    let p = start.args.p.0 in
-    let n = start.args.c.0 in
+    let ws = c.args.words.now in
+    let p = c.args.p.0 in
+    let n = c.args.c.0 in
     (of-read (removing p) ws n c.node-x.ensures c.set_node.ensures, refl)

@@ -6,8 +6,7 @@ use Rattle.steps.proofs.process_kinds.check.Goals as goal
 
 pub validate-requires : goal.validate-requires
 validate-requires c =
-    let start = c in
-    let ws = start.args.words.now in
-    let p = start.args.p.0 in
-    let h = start.args.h.0 in
-    (start.requires.0, process_in_lem Check ws p h 0 0 start.requires refl, hazard_in_lem Check ws p h 0 0 start.requires refl)
+    let ws = c.args.words.now in
+    let p = c.args.p.0 in
+    let h = c.args.h.0 in
+    (c.requires.0, process_in_lem Check ws p h 0 0 c.requires refl, hazard_in_lem Check ws p h 0 0 c.requires refl)

@@ -6,7 +6,6 @@ use Rattle.steps.proofs.process_kinds.drain.Goals as goal
 
 pub drain-requires : goal.drain-requires
 drain-requires c =
-    let start = c in
-    let ws = start.args.words.now in
-    let p = start.args.p.0 in
-    record { sound = (start.requires.0, process_in_lem Drain ws p 0 0 0 start.requires refl); p_nonzero = (facts Drain ws p 0 0 0 start.requires).some' refl }
+    let ws = c.args.words.now in
+    let p = c.args.p.0 in
+    record { sound = (c.requires.0, process_in_lem Drain ws p 0 0 0 c.requires refl); p_nonzero = (facts Drain ws p 0 0 0 c.requires).some' refl }

@@ -6,7 +6,6 @@ use Rattle.steps.proofs.process_kinds.flush.Goals as goal
 
 pub flush-requires : goal.flush-requires
 flush-requires c =
-    let start = c in
-    let ws = start.args.words.now in
-    let p = start.args.p.0 in
-    (start.requires.0, process_in_lem Flush ws p 0 0 0 start.requires refl)
+    let ws = c.args.words.now in
+    let p = c.args.p.0 in
+    (c.requires.0, process_in_lem Flush ws p 0 0 0 c.requires refl)

@@ -18,27 +18,27 @@ next-stored d p h c e = e ∙ ap (λ v. encode (set_process d p (assigning (proc
 
 pub overflow_add-c : goal.overflow_add-c
 overflow_add-c c =
-    let start = c in
-    let ws = start.args.words.now in
-    let p = start.args.p.0 in
-    let h = start.args.h.0 in
-    let n = start.args.c.0 in
-    omega (arith, node_in_lem Protect ws p h n 0 start.requires refl, start.requires.0.sizes.nodes)
+    let ws = c.args.words.now in
+    let p = c.args.p.0 in
+    let h = c.args.h.0 in
+    let n = c.args.c.0 in
+    omega (arith, node_in_lem Protect ws p h n 0 c.requires refl, c.requires.0.sizes.nodes)
 
 pub assign-requires : goal.assign-requires
 assign-requires c =
-    let start = c in
-    let ws = start.args.words.now in
-    let p = start.args.p.0 in
-    let h = start.args.h.0 in
-    let n = start.args.c.0 in
-    record { sound = (start.requires.0, process_in_lem Protect ws p h n 0 start.requires refl, hazard_in_lem Protect ws p h n 0 start.requires refl); p_len_bound = (facts Protect ws p h n 0 start.requires).room refl }
+    let ws = c.args.words.now in
+    let p = c.args.p.0 in
+    let h = c.args.h.0 in
+    let n = c.args.c.0 in
+    record {
+      sound = (c.requires.0, process_in_lem Protect ws p h n 0 c.requires refl, hazard_in_lem Protect ws p h n 0 c.requires refl);
+      p_len_bound = (facts Protect ws p h n 0 c.requires).room refl;
+    }
 
 pub returns : goal.returns
 returns c =
-    let start = c in
-    let ws = start.args.words.now in
-    let p = start.args.p.0 in
-    let h = start.args.h.0 in
-    let n = start.args.c.0 in
+    let ws = c.args.words.now in
+    let p = c.args.p.0 in
+    let h = c.args.h.0 in
+    let n = c.args.c.0 in
     (next-stored (decode ws) p h n c.assign.ensures, refl)

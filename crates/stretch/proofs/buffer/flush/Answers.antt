@@ -26,6 +26,4 @@ shape_of-row c = c.row-2-1.given.1 ∙ simp length-set (omega arith)
 
 pub returns : goal.returns
 returns c =
-    let at-loop = c in
-    let start = at-loop in
-    flush-ends _ _ _ _ at-loop.loop-e.invariant.2 _ _ _ _ start.requires.stores (omega arith) (omega arith) refl c.clear.ensures
+    flush-ends _ _ _ _ c.loop-e.invariant.2 _ _ _ _ c.requires.stores (omega arith) (omega arith) refl c.clear.ensures

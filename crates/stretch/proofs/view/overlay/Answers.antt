@@ -13,19 +13,17 @@ loop-e-init c = (omega arith, omega arith, c.requires.1, overlay-starts)
 
 pub bounds-nodes-h : goal.bounds-nodes-h
 bounds-nodes-h c =
-    let start = c in
-    let h = start.requires.0 in
+    let h = c.requires.0 in
     let e = c.loop-e.e in
-    let aim = aims _ _ h.words e (omega arith) (start.args.at.stores + 3 * e + 0) (omega (arith, h.stores)) in
+    let aim = aims _ _ h.words e (omega arith) (c.args.at.stores + 3 * e + 0) (omega (arith, h.stores)) in
     omega (arith, c.wide-h.ensures.0, aim)
 
 pub loop-e-preserved : goal.loop-e-preserved
 loop-e-preserved c =
-    let start = c in
-    let h = start.requires.0 in
+    let h = c.requires.0 in
     let inv = c.loop-e.invariant in
     let e = c.loop-e.e in
-    let from = start.args.at.stores + 3 * e in
+    let from = c.args.at.stores + 3 * e in
     let target = c.wide-h.ensures.0 ∙ target_at _ _ h.words e (omega arith) (from + 0) (omega (arith, h.stores)) in
     let stored = stored_at _ _ h.words e (omega arith) (from + 1) (omega (arith, h.stores)) in
     (omega arith, inv.1, simp length-set inv.2, overlay-turn inv.3 (omega arith) _ _ target stored)

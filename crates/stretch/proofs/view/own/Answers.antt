@@ -7,7 +7,6 @@ use Rattle.stretch.proofs.view.own.Goals as goal
 
 pub returns : goal.returns
 returns c =
-    let start = c in
-    let x = held_in start.args.at start.args.row.now in
+    let x = held_in c.args.at c.args.row.now in
     let shown = c.visible.ensures in
     c.overlay.ensures ∙ ap (overlaid x.buffer) shown ∙ overlaid-own x

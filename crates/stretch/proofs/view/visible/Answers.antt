@@ -13,13 +13,12 @@ loop-h-init c = (omega arith, refl, c.requires.1, λ j l. absurd (omega arith))
 
 pub loop-h-preserved : goal.loop-h-preserved
 loop-h-preserved c =
-    let at-loop = c in
-    let at = at-loop.args.at in
-    let pre = at-loop.requires.0 in
-    let h = at-loop.loop-h.h in
-    let inv = at-loop.loop-h.invariant in
+    let at = c.args.at in
+    let pre = c.requires.0 in
+    let h = c.loop-h.h in
+    let inv = c.loop-h.invariant in
     let place : at.hazards + 3 * h + 0 ≡ hazard_place shape h = omega (arith, pre.hazards) in
-    let more = shown-more _ _ pre.words h at-loop.loop-h.nodes inv.3 (omega arith) inv.2 (at.hazards + 3 * h + 0) place in
+    let more = shown-more _ _ pre.words h c.loop-h.nodes inv.3 (omega arith) inv.2 (at.hazards + 3 * h + 0) place in
     (omega arith, inv.1, simp length-set inv.2, more)
 
 pub shape_of-nodes : goal.shape_of-nodes

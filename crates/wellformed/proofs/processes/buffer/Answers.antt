@@ -5,6 +5,5 @@ use Rattle.wellformed.proofs.processes.buffer.Goals as goal
 
 pub returns : goal.returns
 returns c =
-    let start = c in
-    let a = start.args in
+    let a = c.args in
     buffer-none a.limits a.stores a.words.now a.at (none a.faults) _ _ c.half-one.ensures c.half.ensures

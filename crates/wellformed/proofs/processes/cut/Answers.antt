@@ -5,7 +5,6 @@ use Rattle.wellformed.proofs.processes.cut.Goals as goal
 
 pub returns : goal.returns
 returns c =
-    let start = c in
-    let a = start.args in
+    let a = c.args in
     cut-is a.limit a.e a.stores _ _ (omega arith) (omega arith) (omega arith) (omega arith) (omega arith)
     c.wrapping_sub_u32.ensures.value c.wrapping_sub_u32-2.ensures.value

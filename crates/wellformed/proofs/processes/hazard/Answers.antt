@@ -6,6 +6,5 @@ use Rattle.wellformed.proofs.processes.hazard.Goals as goal
 
 pub returns : goal.returns
 returns c =
-    let start = c in
-    let a = start.args in
+    let a = c.args in
     hazard-none a.words.now a.m a.before _ (none a.faults) _ _ refl c.noted.ensures c.piece.ensures

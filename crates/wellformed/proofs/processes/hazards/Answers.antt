@@ -10,13 +10,10 @@ loop-h-init c = let a = c.args in (omega arith, hazards-start a.words.now a.m a.
 
 pub loop-h-preserved : goal.loop-h-preserved
 loop-h-preserved c =
-    let at-loop = c in
-    let start = at-loop in
-    let a = start.args in
-    (omega arith, hazards-turn a.words.now a.m a.before _ (none a.faults) _ _ at-loop.loop-h.invariant.1 c.hazard-faults.ensures)
+    let a = c.args in
+    (omega arith, hazards-turn a.words.now a.m a.before _ (none a.faults) _ _ c.loop-h.invariant.1 c.hazard-faults.ensures)
 
 pub returns : goal.returns
 returns c =
-    let start = c in
-    let e : c.loop-h.h ≡ start.args.k = omega arith in
+    let e : c.loop-h.h ≡ c.args.k = omega arith in
     rw (← e) c.loop-h.invariant.1

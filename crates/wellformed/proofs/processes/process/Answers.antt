@@ -6,9 +6,6 @@ use Rattle.wellformed.proofs.processes.process.Goals as goal
 
 pub returns : goal.returns
 returns c =
-    let at-hazards = c in
-    let at-lead = at-hazards in
-    let start = at-lead in
-    let a = start.args in
-    process-none a.limits a.k a.words.now a.at _ _ (none a.faults) _ _ _ refl refl at-lead.lead-one.ensures
-    at-hazards.hazards-two.ensures c.buffer.ensures
+    let a = c.args in
+    process-none a.limits a.k a.words.now a.at _ _ (none a.faults) _ _ _ refl refl c.lead-one.ensures
+    c.hazards-two.ensures c.buffer.ensures

@@ -10,45 +10,31 @@ loop-p-init c = (omega arith, omega arith, c.no_faults-faults.ensures ∙ all_no
 
 pub process-faults-requires : goal.process-faults-requires
 process-faults-requires c =
-    let at-wide2 = c in
-    let at_wide = at-wide2 in
-    let start = at_wide in
-    let room = process-room start.args.words.now _ c.loop-p.p _ start.requires at-wide2.wide-k.ensures.0
-    (omega (arith, at_wide.wide-count.ensures.0)) c.loop-p.invariant.1 in
-    (omega (arith, start.requires.sizes.hazards, at-wide2.wide-k.ensures.0), room)
+    let room = process-room c.args.words.now _ c.loop-p.p _ c.requires c.wide-k.ensures.0
+    (omega (arith, c.wide-count.ensures.0)) c.loop-p.invariant.1 in
+    (omega (arith, c.requires.sizes.hazards, c.wide-k.ensures.0), room)
 
 pub process_width-at-requires : goal.process_width-at-requires
 process_width-at-requires c =
-    let at-wide2 = c in
-    let start = at-wide2 in
-    omega (arith, start.requires.sizes.hazards, at-wide2.wide-k.ensures.0)
+    omega (arith, c.requires.sizes.hazards, c.wide-k.ensures.0)
 
 pub overflow_add-at : goal.overflow_add-at
 overflow_add-at c =
-    let at-loop = c in
-    let at-wide2 = at-loop in
-    let at_wide = at-wide2 in
-    let start = at_wide in
-    let room = process-room start.args.words.now _ at-loop.loop-p.p _ start.requires at-wide2.wide-k.ensures.0
-    (omega (arith, at_wide.wide-count.ensures.0)) at-loop.loop-p.invariant.1 in
+    let room = process-room c.args.words.now _ c.loop-p.p _ c.requires c.wide-k.ensures.0
+    (omega (arith, c.wide-count.ensures.0)) c.loop-p.invariant.1 in
     omega (arith, room, c.process_width-at.ensures)
 
 pub loop-p-preserved : goal.loop-p-preserved
 loop-p-preserved c =
-    let at-loop = c in
-    let at-wide2 = at-loop in
-    let start = at-wide2 in
-    let ws = start.args.words.now in
-    let inv = at-loop.loop-p.invariant in
-    let k = at-wide2.wide-k.ensures.0 in (
+    let ws = c.args.words.now in
+    let inv = c.loop-p.invariant in
+    let k = c.wide-k.ensures.0 in (
       omega arith,
       omega (arith, inv.1, k, c.process_width-at.ensures),
-      process-turn ws start.requires _ (record { calls = refl; hazard = refl; nodes = refl; clock = refl }) _ _ at-loop.loop-p.p _ _ k
+      process-turn ws c.requires _ (record { calls = refl; hazard = refl; nodes = refl; clock = refl }) _ _ c.loop-p.p _ _ k
           inv.1 inv.2 c.process-faults.ensures,
     )
 
 pub returns : goal.returns
 returns c =
-    let at_wide = c in
-    let start = at_wide in
-    processes-end start.args.words.now c.loop-p.p _ _ (omega (arith, at_wide.wide-count.ensures.0)) c.loop-p.invariant.2 refl
+    processes-end c.args.words.now c.loop-p.p _ _ (omega (arith, c.wide-count.ensures.0)) c.loop-p.invariant.2 refl
