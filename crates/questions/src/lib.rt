@@ -11,13 +11,12 @@ ghost use Rattle.model.specs.Questions.{first_no, refusal_of};
 ghost use Rattle.layout.specs.Encode.{decode};
 ghost use Rattle.layout.specs.Sound.{Sound};
 ghost use Rattle.domain.specs.Effects.{given};
+ghost use Rattle.refusals.specs.Numbers.{refusal_in};
 ghost use Rattle.questions.specs.Answers.{answer_to, asked, asked_first, asked_of_all};
 
 use layout::words::{most, states};
 use layout::{HazardId, NodeId, ProcessId};
-
-// The number of question 7, which is asked of a node that no step names, too.
-pub const NO_SUCH_NODE: u32 = 7;
+use refusals::Refusal;
 
 // 5: is the process one of the domain's?
 fn process_in_range(words: &[u32], kind: u32, p: ProcessId) -> bool
@@ -209,66 +208,80 @@ fn none_assigned(words: &[u32], kind: u32, p: ProcessId) -> bool
 
 // The first no from question 10 on, which are each of one kind or two. The list is three functions: as one or two it is too long to be folded
 // into each kind's arm of the dispatch.
-fn rest(words: &[u32], kind: u32, p: ProcessId, h: HazardId) -> u32
+fn rest(words: &[u32], kind: u32, p: ProcessId, h: HazardId) -> Result<(), Refusal>
     requires { Sound words.now }
-    ensures { result ≡ first_no (drop asked_of_all (asked kind words.now p.0 h.0 0 0)) }
+    ensures { refusal_in result ≡ first_no (drop asked_of_all (asked kind words.now p.0 h.0 0 0)) }
 {
     if !assigned(words, kind, p, h) {
-        10
+        Err(Refusal::NothingAssigned)
     } else if !reachable(words, kind, p, h) {
-        11
+        Err(Refusal::NotReachable)
     } else if !validated(words, kind, p, h) {
-        12
+        Err(Refusal::NotValidated)
     } else if !room(words, kind, p) {
-        13
+        Err(Refusal::BufferFull)
     } else if !store_pending(words, kind, p) {
-        14
+        Err(Refusal::NoStorePending)
     } else if !clock_goes_on(words, kind) {
-        15
+        Err(Refusal::ClockAtEnd)
     } else if !stores_young(words, kind) {
-        16
+        Err(Refusal::StoreTooOld)
     } else if !none_assigned(words, kind, p) {
-        17
+        Err(Refusal::StillAssigned)
     } else {
-        0
+        Ok(())
     }
 }
 
 // The first no from question 6 on: first what the step names, by the table.
-fn named(words: &[u32], kind: u32, p: ProcessId, h: HazardId, c: NodeId, guest: u32) -> u32
+fn named(
+    words: &[u32],
+    kind: u32,
+    p: ProcessId,
+    h: HazardId,
+    c: NodeId,
+    guest: u32,
+) -> Result<(), Refusal>
     requires { Sound words.now }
-    ensures { result ≡ first_no (drop asked_first (asked kind words.now p.0 h.0 c.0 guest)) }
+    ensures { refusal_in result ≡ first_no (drop asked_first (asked kind words.now p.0 h.0 c.0 guest)) }
 {
     if !hazard_in_range(words, kind, h) {
-        6
+        Err(Refusal::NoSuchHazard)
     } else if !node_in_range(words, kind, c) {
-        NO_SUCH_NODE
+        Err(Refusal::NoSuchNode)
     } else if !limit_in_range(kind, guest) {
-        23
+        Err(Refusal::LimitOutOfRange)
     } else if !state_met(words, kind, c) {
-        8
+        Err(Refusal::WrongState)
     } else if !owned(words, kind, p, c) {
-        9
+        Err(Refusal::NotOwner)
     } else {
         rest(words, kind, p, h)
     }
 }
 
 // The refusal of a step: the first question with the answer no.
-pub fn refusal(words: &[u32], kind: u32, p: ProcessId, h: HazardId, c: NodeId, guest: u32) -> u32
+pub fn refusal(
+    words: &[u32],
+    kind: u32,
+    p: ProcessId,
+    h: HazardId,
+    c: NodeId,
+    guest: u32,
+) -> Result<(), Refusal>
     requires { Sound words.now }
-    ensures { result ≡ refusal_of (kind_of kind) (decode words.now) (given kind p.0 h.0 c.0 guest) }
+    ensures { refusal_in result ≡ refusal_of (kind_of kind) (decode words.now) (given kind p.0 h.0 c.0 guest) }
 {
     if !kinds::known(kind) {
-        4
+        Err(Refusal::UnknownKind)
     } else if !process_in_range(words, kind, p) {
-        5
+        Err(Refusal::NoSuchProcess)
     } else if !present_or_joins(words, kind, p) {
-        20
+        Err(Refusal::WrongAttendance)
     } else if !unburdened(words, kind, p) {
-        21
+        Err(Refusal::Burdened)
     } else if !takes_over(words, kind, p, c) {
-        22
+        Err(Refusal::NobodyTakesOver)
     } else {
         named(words, kind, p, h, c, guest)
     }
