@@ -6,6 +6,7 @@ use Rattle.layout.specs.declared.Params.{Params}
 use Rattle.layout.specs.declared.Lead.{Lead}
 use Rattle.layout.specs.declared.Hazard.{Hazard}
 use Rattle.layout.specs.declared.Node.{Node}
+use Rattle.layout.specs.declared.Step.{Step}
 
 abbrev pub params_value : Params → M.Params
 params_value a =
@@ -27,3 +28,6 @@ hazard_value h = record { visible = h.visible; assigned = h.assigned; validated 
 
 abbrev pub node_value : Node → S.Node
 node_value n = record { state = n.state; owner = n.owner; guest = n.guest; retired_at = n.retired; limbo = n.limbo }
+
+abbrev pub step_value : Step → S.Step
+step_value s = record { kind = s.kind; process = s.process.0; hazard = s.hazard.0; node = s.node.0; guest = s.guest }

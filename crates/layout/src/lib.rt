@@ -23,6 +23,16 @@ pub struct HazardId(pub u32);
 #[derive(Clone, Copy)]
 pub struct NodeId(pub u32);
 
+// The five numbers of a step: any will do.
+#[derive(Clone, Copy)]
+pub struct Step {
+    pub kind: u32,
+    pub process: ProcessId,
+    pub hazard: HazardId,
+    pub node: NodeId,
+    pub guest: u32,
+}
+
 // N, K, M, T, Q, C and E.
 #[derive(Clone, Copy)]
 pub struct Params {
