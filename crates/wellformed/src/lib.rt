@@ -7,7 +7,7 @@ pub mod processes;
 ghost use Rattle.std.specs.Prelude.{◌≡◌, ◌≤◌, true, length};
 ghost use Rattle.layout.specs.Encode.{shape};
 ghost use Rattle.layout.specs.Words.{head_fits, well_formed};
-ghost use Rattle.wellformed.specs.Answers.{checked_answer};
+ghost use Rattle.wellformed.specs.Answers.{counted_in, reachable_in};
 
 use layout::fresh::up_to;
 use layout::words::{head_word, most, paths};
@@ -43,45 +43,42 @@ fn head_fits(words: &[u32]) -> bool
         & ((words[head_word::PATH] <= paths::FALLBACK) & (words[head_word::EPOCH] <= most::EPOCH))
 }
 
-// The number of the question that malformed words get.
-pub const MALFORMED: usize = 3;
-
-// The question as one number (layout::pair): 3 unless the words are those of a well-formed domain; else 0 and, if it is asked, how many nodes are
-// Reachable. One function for both: with a function for each, the processes' check would be folded into neither (docs/DECISIONS.md 112).
-fn checked(words: &[u32], counting: bool) -> usize
-    ensures { result ≡ checked_answer counting words.now }
+// How many nodes are Reachable, if it is asked, else 0; none unless the words are those of a well-formed domain. One function for both: with a
+// function for each, the processes' check would be folded into neither (docs/DECISIONS.md 112).
+fn checked(words: &[u32], counting: bool) -> Option<u32>
+    ensures { result ≡ counted_in counting words.now }
 {
     if words.len() < head_word::WIDTH {
-        return MALFORMED;
+        return None;
     }
     if !head_fits(words) {
-        return MALFORMED;
+        return None;
     }
     let n = words[head_word::PROCESSES];
     let m = words[head_word::NODES];
     let a = layout::process_start(words[head_word::HAZARDS], n);
     if words.len() != a + layout::nodes_width(m) {
-        return MALFORMED;
+        return None;
     }
     let limits = nodes::fits::node_limits(n - 1, words[head_word::CLOCK]);
     let faults = processes::processes_faults(words);
     let found = nodes::pass::go_over(faults, &words[a..], m, &limits, counting);
     if !found.fits {
-        return MALFORMED;
+        return None;
     }
-    layout::pair(0, found.reachable)
+    Some(found.reachable)
 }
 
 // Whether the words are those of a well-formed domain.
 pub fn well_formed(words: &[u32]) -> bool
     ensures { result ≡ well_formed words.now }
 {
-    checked(words, false) == 0
+    checked(words, false).is_some()
 }
 
-// The panel's answer as one number: 3, or 0 and how many nodes are Reachable.
-pub fn reachable(words: &[u32]) -> usize
-    ensures { result ≡ checked_answer true words.now }
+// How many nodes are Reachable (the panel); none unless the words are those of a well-formed domain.
+pub fn reachable(words: &[u32]) -> Option<u32>
+    ensures { result ≡ reachable_in words.now }
 {
     checked(words, true)
 }

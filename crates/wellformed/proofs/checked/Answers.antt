@@ -99,4 +99,4 @@ returns c =
     found-fits ws h l c.process_start-a.ensures.0 small c.processes_faults-faults.ensures c.go_over-found.ensures.fits
     c.node_limits-limits.ensures in
     let good = not-false c.go_over-found.result.fits c.if-not-found.false in
-    c.pair.ensures.0 ∙ counted _ _ _ fits good (counting ws c.process_start-a.ensures.0 _ _ _ c.go_over-found.ensures.counted good)
+    counted _ _ _ fits good (counting ws c.process_start-a.ensures.0 _ _ _ c.go_over-found.ensures.counted good)
