@@ -3,16 +3,15 @@
 #![tactic(auto)]
 
 ghost use Rattle.std.specs.Prelude.{◌≡◌, not};
-ghost use Rattle.model.specs.Kinds.{kind_of, is, Unknown};
-ghost use Rattle.kinds.specs.Table.{row_code, guest_code};
+ghost use Rattle.model.specs.Kinds.{kind_of, number_of, is, Unknown};
+ghost use Rattle.refusals.specs.Numbers.{refusal_in};
+ghost use Rattle.kinds.specs.Table.{kind_value, kind_in, kind_refusal, reading, needing, owning, row_code, guest_code};
 
+use self::Meaning::{Hazard, Limit, Node, Number, Process, Unread};
 use layout::words::states;
+use refusals::Refusal;
 
-// How many kinds there are: 1 to COUNT.
-pub const COUNT: usize = 17;
-
-// The kind that reads a guest, those that raise or lower the reachable count, those that a question beside the table is about, and the one
-// that is a call of its own too.
+// Numbers of kinds that callers name.
 pub const ALLOCATE: u32 = 1;
 
 pub const PUBLISH: u32 = 2;
@@ -41,78 +40,171 @@ pub const JOIN: u32 = 16;
 
 pub const PORTION: u32 = 17;
 
-// What a field of a step is to a kind.
-pub const UNREAD: u8 = 0;
+// Each with its number.
+#[derive(Clone, Copy, Debug, PartialEq, Eq)]
+pub enum Kind {
+    Allocate = 1,
+    Publish = 2,
+    Protect = 3,
+    Check = 4,
+    Use = 5,
+    Clear = 6,
+    Remove = 7,
+    Retire = 8,
+    Drain = 9,
+    Flush = 10,
+    Tick = 11,
+    Manage = 12,
+    ClearPresence = 13,
+    Reinsert = 14,
+    Leave = 15,
+    Join = 16,
+    Portion = 17,
+}
 
-pub const PROCESS: u8 = 1;
+impl TryFrom<u32> for Kind {
+    type Error = Refusal;
 
-pub const HAZARD: u8 = 2;
+    ghost try_from_gives = { λ n r. (kind_in r ≡ kind_of n) × (refusal_in r ≡ kind_refusal (kind_of n)) };
 
-pub const NODE: u8 = 3;
+    fn try_from(number: u32) -> Result<Kind, Refusal> {
+        match number {
+            1 => Ok(Kind::Allocate),
+            2 => Ok(Kind::Publish),
+            3 => Ok(Kind::Protect),
+            4 => Ok(Kind::Check),
+            5 => Ok(Kind::Use),
+            6 => Ok(Kind::Clear),
+            7 => Ok(Kind::Remove),
+            8 => Ok(Kind::Retire),
+            9 => Ok(Kind::Drain),
+            10 => Ok(Kind::Flush),
+            11 => Ok(Kind::Tick),
+            12 => Ok(Kind::Manage),
+            13 => Ok(Kind::ClearPresence),
+            14 => Ok(Kind::Reinsert),
+            15 => Ok(Kind::Leave),
+            16 => Ok(Kind::Join),
+            17 => Ok(Kind::Portion),
+            _ => Err(Refusal::UnknownKind),
+        }
+    }
+}
 
-pub const NUMBER: u8 = 4;
+impl From<Kind> for u32 {
+    ghost from_gives = { λ k n. n ≡ number_of (kind_value k) };
 
-pub const LIMIT: u8 = 5;
+    fn from(kind: Kind) -> u32 {
+        kind as u32
+    }
+}
 
-// A kind that needs no state: none of the five.
-pub const ANY: u32 = 5;
+// What a field of a step is to a kind. A number has no range of its own; a limit is how many nodes a portion may examine.
+#[derive(Clone, Copy, Debug, PartialEq, Eq)]
+pub enum Meaning {
+    Unread,
+    Process,
+    Hazard,
+    Node,
+    Number,
+    Limit,
+}
 
-// What the fields process, hazard, node and guest are, the state needed, and whether the process must own the node.
-#[derive(Clone, Copy)]
-pub struct Row(pub u8, pub u8, pub u8, pub u8, pub u32, pub bool);
+// What the fields of a step are to a kind, the state that its node must be in, if any, and whether the process must own that node.
+#[derive(Clone, Copy, Debug, PartialEq, Eq)]
+pub struct Row {
+    pub process: Meaning,
+    pub hazard: Meaning,
+    pub node: Meaning,
+    pub guest: Meaning,
+    pub needs: Option<u32>,
+    pub owns: bool,
+}
 
-// A row a kind, in the order of their numbers.
-const ROWS: [Row; COUNT] = [
-    Row(PROCESS, UNREAD, NODE, NUMBER, states::FREE, false), // allocate
-    Row(PROCESS, UNREAD, NODE, UNREAD, states::ALLOCATED, true), // publish
-    Row(PROCESS, HAZARD, NODE, UNREAD, ANY, false), // protect
-    Row(PROCESS, HAZARD, UNREAD, UNREAD, ANY, false), // check
-    Row(PROCESS, HAZARD, UNREAD, UNREAD, ANY, false), // use
-    Row(PROCESS, HAZARD, UNREAD, UNREAD, ANY, false), // clear
-    Row(PROCESS, UNREAD, NODE, UNREAD, states::REACHABLE, false), // remove
-    Row(PROCESS, UNREAD, NODE, UNREAD, states::REMOVED, true), // retire
-    Row(PROCESS, UNREAD, UNREAD, UNREAD, ANY, false), // drain
-    Row(PROCESS, UNREAD, UNREAD, UNREAD, ANY, false), // flush
-    Row(UNREAD, UNREAD, UNREAD, UNREAD, ANY, false), // tick
-    Row(PROCESS, UNREAD, UNREAD, UNREAD, ANY, false), // manage
-    Row(UNREAD, UNREAD, UNREAD, UNREAD, ANY, false), // clear presence
-    Row(PROCESS, UNREAD, NODE, UNREAD, states::REMOVED, true), // reinsert
-    Row(PROCESS, UNREAD, PROCESS, UNREAD, ANY, false), // leave
-    Row(PROCESS, UNREAD, UNREAD, UNREAD, ANY, false), // join
-    Row(PROCESS, UNREAD, NODE, LIMIT, ANY, false), // portion
-];
+// A row of what is read.
+#[inline(always)]
+fn reading(process: Meaning, hazard: Meaning, node: Meaning, guest: Meaning) -> Row
+    ensures { result ≡ reading process hazard node guest }
+{
+    Row {
+        process,
+        hazard,
+        node,
+        guest,
+        needs: None,
+        owns: false,
+    }
+}
+
+impl Row {
+    // Its node in this state.
+    #[inline(always)]
+    fn needing(self, state: u32) -> Row
+        ensures { result ≡ needing state self }
+    {
+        Row {
+            needs: Some(state),
+            ..self
+        }
+    }
+
+    // Its node in this state, and the process's own.
+    #[inline(always)]
+    fn owning(self, state: u32) -> Row
+        ensures { result ≡ owning state self }
+    {
+        Row {
+            owns: true,
+            ..self.needing(state)
+        }
+    }
+}
+
+impl Kind {
+    // As the kind is a variant that is known the table folds away: where it is not, it is laid out anew at each use, which takes longer than a
+    // step.
+    #[inline(always)]
+    pub fn row(self) -> Row
+        ensures { result ≡ row_code (kind_value self) }
+    {
+        match self {
+            Kind::Allocate => reading(Process, Unread, Node, Number).needing(states::FREE),
+            Kind::Publish => reading(Process, Unread, Node, Unread).owning(states::ALLOCATED),
+            Kind::Protect => reading(Process, Hazard, Node, Unread),
+            Kind::Check => reading(Process, Hazard, Unread, Unread),
+            Kind::Use => reading(Process, Hazard, Unread, Unread),
+            Kind::Clear => reading(Process, Hazard, Unread, Unread),
+            Kind::Remove => reading(Process, Unread, Node, Unread).needing(states::REACHABLE),
+            Kind::Retire => reading(Process, Unread, Node, Unread).owning(states::REMOVED),
+            Kind::Drain => reading(Process, Unread, Unread, Unread),
+            Kind::Flush => reading(Process, Unread, Unread, Unread),
+            Kind::Tick => reading(Unread, Unread, Unread, Unread),
+            Kind::Manage => reading(Process, Unread, Unread, Unread),
+            Kind::ClearPresence => reading(Unread, Unread, Unread, Unread),
+            Kind::Reinsert => reading(Process, Unread, Node, Unread).owning(states::REMOVED),
+            // Its node field is a second process, which takes over.
+            Kind::Leave => reading(Process, Unread, Process, Unread),
+            Kind::Join => reading(Process, Unread, Unread, Unread),
+            // Its node field is where it starts, its guest field a limit.
+            Kind::Portion => reading(Process, Unread, Node, Limit),
+        }
+    }
+}
 
 // Question 4: is there such a kind?
 pub fn known(kind: u32) -> bool
     ensures { result ≡ not (is (kind_of kind) Unknown) }
 {
-    (1 <= kind) & (layout::wide(kind) <= COUNT)
+    Kind::try_from(kind).is_ok()
 }
 
-// The row of a kind; a number that is none reads nothing. At a place that is a literal the table folds away: at one that is not known it
-// is laid out anew at each use, which takes longer than a step.
+// The row of the kind with this number; of a number that is none's, one that reads nothing.
 pub fn row_of(kind: u32) -> Row
     ensures { result ≡ row_code (kind_of kind) }
 {
-    match kind {
-        1 => ROWS[0],
-        2 => ROWS[1],
-        3 => ROWS[2],
-        4 => ROWS[3],
-        5 => ROWS[4],
-        6 => ROWS[5],
-        7 => ROWS[6],
-        8 => ROWS[7],
-        9 => ROWS[8],
-        10 => ROWS[9],
-        11 => ROWS[10],
-        12 => ROWS[11],
-        13 => ROWS[12],
-        14 => ROWS[13],
-        15 => ROWS[14],
-        16 => ROWS[15],
-        17 => ROWS[16],
-        _ => Row(UNREAD, UNREAD, UNREAD, UNREAD, ANY, false),
+    match Kind::try_from(kind) {
+        Ok(kind) => kind.row(),
+        Err(_) => reading(Unread, Unread, Unread, Unread),
     }
 }
 
@@ -120,6 +212,9 @@ pub fn row_of(kind: u32) -> Row
 pub fn guest_read(kind: u32, guest: u32) -> u32
     ensures { result ≡ guest_code (kind_of kind) guest }
 {
-    let row = row_of(kind);
-    if row.3 == NUMBER { guest } else { 0 }
+    if row_of(kind).guest == Number {
+        guest
+    } else {
+        0
+    }
 }
