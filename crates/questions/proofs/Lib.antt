@@ -1,3 +1,2 @@
 pub mod PastLast
-pub mod AskedOf
 pub mod Accepted

@@ -1,288 +1,246 @@
-// The questions before a step, numbers 4 to 17 and 20 to 23 in the papers' order: the number of the first with the answer no, 0 where there
-// is none.
-// A question that a kind is not asked has the answer yes and reads nothing, so that with the kind as a literal only its own are left.
+// The questions before a step, numbers 4 to 17 and 20 to 23 in the papers' order: a step is refused by the first with the answer no.
+// A question that a kind is not asked has the answer yes and reads nothing, so that with the kind as a literal only its own are left. For that
+// each is folded into its list, and the lists into each kind's arm of the dispatch.
 #![tactic(auto)]
 
 pub mod read;
 
-ghost use Rattle.std.specs.Prelude.{[], ◌≡◌, drop};
+ghost use Rattle.std.specs.Prelude.{[], ◌≡◌, MatchResult, true, false, drop};
 ghost use Rattle.model.specs.Kinds.{kind_of};
 ghost use Rattle.model.specs.Questions.{first_no, refusal_of};
 ghost use Rattle.layout.specs.Encode.{decode};
 ghost use Rattle.layout.specs.Sound.{Sound};
-ghost use Rattle.domain.specs.Effects.{given};
+ghost use Rattle.layout.specs.Values.{step_value};
 ghost use Rattle.refusals.specs.Numbers.{refusal_in};
-ghost use Rattle.questions.specs.Answers.{answer_to, asked, asked_first, asked_of_all};
+ghost use Rattle.kinds.specs.Table.{kind_value};
+ghost use Rattle.questions.specs.Answers.{answer_to, asked, asked_first, asked_of_all, asked_step};
 
+use kinds::{Kind, Meaning};
 use layout::words::{most, states};
-use layout::{HazardId, NodeId, ProcessId};
+use layout::{HazardId, NodeId, ProcessId, Step};
 use refusals::Refusal;
 
 // 5: is the process one of the domain's?
-fn process_in_range(words: &[u32], kind: u32, p: ProcessId) -> bool
+#[inline(always)]
+fn process_in_range(words: &[u32], kind: Kind, p: ProcessId) -> bool
     requires { Sound words.now }
-    ensures { result ≡ answer_to 5 (asked kind words.now p.0 0 0 0) }
+    ensures { result ≡ answer_to 5 (asked (kind_value kind) words.now p.0 0 0 0) }
 {
-    let row = kinds::row_of(kind);
-    (row.0 != kinds::PROCESS) | (p.0 < domain::bounds(words).processes)
+    kind.row().process != Meaning::Process || p.0 < domain::bounds(words).processes
 }
 
 // 20: is the process present, or absent where it is to join?
-fn present_or_joins(words: &[u32], kind: u32, p: ProcessId) -> bool
+#[inline(always)]
+fn present_or_joins(words: &[u32], kind: Kind, p: ProcessId) -> bool
     requires { Sound words.now }
-    ensures { result ≡ answer_to 20 (asked kind words.now p.0 0 0 0) }
+    ensures { result ≡ answer_to 20 (asked (kind_value kind) words.now p.0 0 0 0) }
 {
-    let row = kinds::row_of(kind);
-    if row.0 != kinds::PROCESS {
-        return true;
-    }
-    let present = read::lead(words, p).present;
-    if kind == kinds::JOIN {
-        present == 0
-    } else {
-        present == 1
-    }
+    let wanted = u32::from(kind != Kind::Join);
+    kind.row().process != Meaning::Process || read::lead(words, p).present == wanted
 }
 
 // 21: has the process no hazard assigned, no store pending and no node under way?
-fn unburdened(words: &[u32], kind: u32, p: ProcessId) -> bool
+#[inline(always)]
+fn unburdened(words: &[u32], kind: Kind, p: ProcessId) -> bool
     requires { Sound words.now }
-    ensures { result ≡ answer_to 21 (asked kind words.now p.0 0 0 0) }
+    ensures { result ≡ answer_to 21 (asked (kind_value kind) words.now p.0 0 0 0) }
 {
-    if kind != kinds::LEAVE {
-        return true;
-    }
-    let stores = read::lead(words, p).stores;
-    read::unassigned(words, p) & ((stores == 0) & domain::none_under_way(words, p))
+    kind != Kind::Leave
+        || read::unassigned(words, p)
+            & ((read::lead(words, p).stores == 0) & domain::none_under_way(words, p))
 }
 
 // 22: is the second process, which the node field names, another one of the domain's and present?
-fn takes_over(words: &[u32], kind: u32, p: ProcessId, c: NodeId) -> bool
+#[inline(always)]
+fn takes_over(words: &[u32], kind: Kind, p: ProcessId, c: NodeId) -> bool
     requires { Sound words.now }
-    ensures { result ≡ answer_to 22 (asked kind words.now p.0 0 c.0 0) }
+    ensures { result ≡ answer_to 22 (asked (kind_value kind) words.now p.0 0 c.0 0) }
 {
-    if kind != kinds::LEAVE {
-        return true;
-    }
-    let present = read::lead(words, ProcessId(c.0)).present;
-    (c.0 < domain::bounds(words).processes) & ((c.0 != p.0) & (present == 1))
+    kind != Kind::Leave
+        || (c.0 < domain::bounds(words).processes)
+            & ((c.0 != p.0) & (read::lead(words, ProcessId(c.0)).present == 1))
 }
 
 // 6: is the hazard one of a process's?
-fn hazard_in_range(words: &[u32], kind: u32, h: HazardId) -> bool
+#[inline(always)]
+fn hazard_in_range(words: &[u32], kind: Kind, h: HazardId) -> bool
     requires { Sound words.now }
-    ensures { result ≡ answer_to 6 (asked kind words.now 0 h.0 0 0) }
+    ensures { result ≡ answer_to 6 (asked (kind_value kind) words.now 0 h.0 0 0) }
 {
-    let row = kinds::row_of(kind);
-    (row.1 != kinds::HAZARD) | (h.0 < domain::bounds(words).hazards)
+    kind.row().hazard != Meaning::Hazard || h.0 < domain::bounds(words).hazards
 }
 
 // 7: is the node one of the domain's?
-fn node_in_range(words: &[u32], kind: u32, c: NodeId) -> bool
+#[inline(always)]
+fn node_in_range(words: &[u32], kind: Kind, c: NodeId) -> bool
     requires { Sound words.now }
-    ensures { result ≡ answer_to 7 (asked kind words.now 0 0 c.0 0) }
+    ensures { result ≡ answer_to 7 (asked (kind_value kind) words.now 0 0 c.0 0) }
 {
-    let row = kinds::row_of(kind);
-    (row.2 != kinds::NODE) | (c.0 < domain::bounds(words).nodes)
+    kind.row().node != Meaning::Node || c.0 < domain::bounds(words).nodes
 }
 
 // 23: is the limit one that a portion may have?
-fn limit_in_range(kind: u32, limit: u32) -> bool
-    ensures { result ≡ answer_to 23 (asked kind [] 0 0 0 limit) }
+#[inline(always)]
+fn limit_in_range(kind: Kind, limit: u32) -> bool
+    ensures { result ≡ answer_to 23 (asked (kind_value kind) [] 0 0 0 limit) }
 {
-    let row = kinds::row_of(kind);
-    (row.3 != kinds::LIMIT) | ((1 <= limit) & (limit <= most::EXAMINED))
+    kind.row().guest != Meaning::Limit || (1 <= limit) & (limit <= most::EXAMINED)
 }
 
 // 8: is the node in the state that the kind needs?
-fn state_met(words: &[u32], kind: u32, c: NodeId) -> bool
+#[inline(always)]
+fn state_met(words: &[u32], kind: Kind, c: NodeId) -> bool
     requires { Sound words.now }
-    ensures { result ≡ answer_to 8 (asked kind words.now 0 0 c.0 0) }
+    ensures { result ≡ answer_to 8 (asked (kind_value kind) words.now 0 0 c.0 0) }
 {
-    let row = kinds::row_of(kind);
-    if row.4 == kinds::ANY {
-        return true;
+    match kind.row().needs {
+        None => true,
+        Some(state) => read::node(words, c).state == state,
     }
-    read::node(words, c).state == row.4
 }
 
 // 9: does the process own the node?
-fn owned(words: &[u32], kind: u32, p: ProcessId, c: NodeId) -> bool
+#[inline(always)]
+fn owned(words: &[u32], kind: Kind, p: ProcessId, c: NodeId) -> bool
     requires { Sound words.now }
-    ensures { result ≡ answer_to 9 (asked kind words.now p.0 0 c.0 0) }
+    ensures { result ≡ answer_to 9 (asked (kind_value kind) words.now p.0 0 c.0 0) }
 {
-    let row = kinds::row_of(kind);
-    if !row.5 {
-        return true;
-    }
-    read::node(words, c).owner == p.0
+    !kind.row().owns || read::node(words, c).owner == p.0
 }
 
 // 10: has the hazard a node assigned?
-fn assigned(words: &[u32], kind: u32, p: ProcessId, h: HazardId) -> bool
+#[inline(always)]
+fn assigned(words: &[u32], kind: Kind, p: ProcessId, h: HazardId) -> bool
     requires { Sound words.now }
-    ensures { result ≡ answer_to 10 (asked kind words.now p.0 h.0 0 0) }
+    ensures { result ≡ answer_to 10 (asked (kind_value kind) words.now p.0 h.0 0 0) }
 {
-    if kind != kinds::CHECK {
-        return true;
-    }
-    read::hazard(words, p, h).assigned != 0
+    kind != Kind::Check || read::hazard(words, p, h).assigned != 0
 }
 
 // 11: is that node Reachable?
-fn reachable(words: &[u32], kind: u32, p: ProcessId, h: HazardId) -> bool
+#[inline(always)]
+fn reachable(words: &[u32], kind: Kind, p: ProcessId, h: HazardId) -> bool
     requires { Sound words.now }
-    ensures { result ≡ answer_to 11 (asked kind words.now p.0 h.0 0 0) }
+    ensures { result ≡ answer_to 11 (asked (kind_value kind) words.now p.0 h.0 0 0) }
 {
-    if kind != kinds::CHECK {
-        return true;
-    }
-    read::hazard_node(words, p, h).state == states::REACHABLE
+    kind != Kind::Check || read::hazard_node(words, p, h).state == states::REACHABLE
 }
 
 // 12: is the hazard validated?
-fn validated(words: &[u32], kind: u32, p: ProcessId, h: HazardId) -> bool
+#[inline(always)]
+fn validated(words: &[u32], kind: Kind, p: ProcessId, h: HazardId) -> bool
     requires { Sound words.now }
-    ensures { result ≡ answer_to 12 (asked kind words.now p.0 h.0 0 0) }
+    ensures { result ≡ answer_to 12 (asked (kind_value kind) words.now p.0 h.0 0 0) }
 {
-    if kind != kinds::USE {
-        return true;
-    }
-    read::hazard(words, p, h).validated == 1
+    kind != Kind::Use || read::hazard(words, p, h).validated == 1
 }
 
 // 13: is there room in the buffer?
-fn room(words: &[u32], kind: u32, p: ProcessId) -> bool
+#[inline(always)]
+fn room(words: &[u32], kind: Kind, p: ProcessId) -> bool
     requires { Sound words.now }
-    ensures { result ≡ answer_to 13 (asked kind words.now p.0 0 0 0) }
+    ensures { result ≡ answer_to 13 (asked (kind_value kind) words.now p.0 0 0 0) }
 {
-    if (kind != kinds::PROTECT) & (kind != kinds::CLEAR) {
-        return true;
-    }
-    read::lead(words, p).stores < most::STORES
+    !matches!(kind, Kind::Protect | Kind::Clear) || read::lead(words, p).stores < most::STORES
 }
 
 // 14: is a store pending?
-fn store_pending(words: &[u32], kind: u32, p: ProcessId) -> bool
+#[inline(always)]
+fn store_pending(words: &[u32], kind: Kind, p: ProcessId) -> bool
     requires { Sound words.now }
-    ensures { result ≡ answer_to 14 (asked kind words.now p.0 0 0 0) }
+    ensures { result ≡ answer_to 14 (asked (kind_value kind) words.now p.0 0 0 0) }
 {
-    if kind != kinds::DRAIN {
-        return true;
-    }
-    read::lead(words, p).stores != 0
+    kind != Kind::Drain || read::lead(words, p).stores != 0
 }
 
 // 15: can the clock go on?
-fn clock_goes_on(words: &[u32], kind: u32) -> bool
+#[inline(always)]
+fn clock_goes_on(words: &[u32], kind: Kind) -> bool
     requires { Sound words.now }
-    ensures { result ≡ answer_to 15 (asked kind words.now 0 0 0 0) }
+    ensures { result ≡ answer_to 15 (asked (kind_value kind) words.now 0 0 0 0) }
 {
-    if kind != kinds::TICK {
-        return true;
-    }
-    domain::clock(words) < most::CLOCK
+    kind != Kind::Tick || domain::clock(words) < most::CLOCK
 }
 
 // 16: is every pending store younger than the delay?
-fn stores_young(words: &[u32], kind: u32) -> bool
+#[inline(always)]
+fn stores_young(words: &[u32], kind: Kind) -> bool
     requires { Sound words.now }
-    ensures { result ≡ answer_to 16 (asked kind words.now 0 0 0 0) }
+    ensures { result ≡ answer_to 16 (asked (kind_value kind) words.now 0 0 0 0) }
 {
-    if kind != kinds::TICK {
-        return true;
-    }
-    domain::processes::all_young(words)
+    kind != Kind::Tick || domain::processes::all_young(words)
 }
 
 // 17: has no hazard of the process a node assigned?
-fn none_assigned(words: &[u32], kind: u32, p: ProcessId) -> bool
+#[inline(always)]
+fn none_assigned(words: &[u32], kind: Kind, p: ProcessId) -> bool
     requires { Sound words.now }
-    ensures { result ≡ answer_to 17 (asked kind words.now p.0 0 0 0) }
+    ensures { result ≡ answer_to 17 (asked (kind_value kind) words.now p.0 0 0 0) }
 {
-    if kind != kinds::MANAGE {
-        return true;
-    }
-    read::unassigned(words, p)
+    kind != Kind::Manage || read::unassigned(words, p)
 }
 
-// The first no from question 10 on, which are each of one kind or two. The list is three functions: as one or two it is too long to be folded
-// into each kind's arm of the dispatch.
-fn rest(words: &[u32], kind: u32, p: ProcessId, h: HazardId) -> Result<(), Refusal>
-    requires { Sound words.now }
-    ensures { refusal_in result ≡ first_no (drop asked_of_all (asked kind words.now p.0 h.0 0 0)) }
+// Refused where the answer to its question is no.
+#[inline(always)]
+fn holds(answer: bool, refusal: Refusal) -> Result<(), Refusal>
+    ensures { MatchResult result (λ _. answer ≡ true) (λ r. (answer ≡ false) × (r ≡ refusal)) }
 {
-    if !assigned(words, kind, p, h) {
-        Err(Refusal::NothingAssigned)
-    } else if !reachable(words, kind, p, h) {
-        Err(Refusal::NotReachable)
-    } else if !validated(words, kind, p, h) {
-        Err(Refusal::NotValidated)
-    } else if !room(words, kind, p) {
-        Err(Refusal::BufferFull)
-    } else if !store_pending(words, kind, p) {
-        Err(Refusal::NoStorePending)
-    } else if !clock_goes_on(words, kind) {
-        Err(Refusal::ClockAtEnd)
-    } else if !stores_young(words, kind) {
-        Err(Refusal::StoreTooOld)
-    } else if !none_assigned(words, kind, p) {
-        Err(Refusal::StillAssigned)
-    } else {
-        Ok(())
-    }
+    if answer { Ok(()) } else { Err(refusal) }
 }
 
-// The first no from question 6 on: first what the step names, by the table.
-fn named(
-    words: &[u32],
-    kind: u32,
-    p: ProcessId,
-    h: HazardId,
-    c: NodeId,
-    guest: u32,
-) -> Result<(), Refusal>
+// Asks from question 10 on, which are each of one kind or two.
+#[inline(always)]
+fn rest(words: &[u32], kind: Kind, step: Step) -> Result<(), Refusal>
     requires { Sound words.now }
-    ensures { refusal_in result ≡ first_no (drop asked_first (asked kind words.now p.0 h.0 c.0 guest)) }
+    ensures { refusal_in result ≡ first_no (drop asked_of_all (asked_step (kind_value kind) words.now (step_value step))) }
 {
-    if !hazard_in_range(words, kind, h) {
-        Err(Refusal::NoSuchHazard)
-    } else if !node_in_range(words, kind, c) {
-        Err(Refusal::NoSuchNode)
-    } else if !limit_in_range(kind, guest) {
-        Err(Refusal::LimitOutOfRange)
-    } else if !state_met(words, kind, c) {
-        Err(Refusal::WrongState)
-    } else if !owned(words, kind, p, c) {
-        Err(Refusal::NotOwner)
-    } else {
-        rest(words, kind, p, h)
-    }
+    let (p, h) = (step.process, step.hazard);
+    holds(assigned(words, kind, p, h), Refusal::NothingAssigned)?;
+    holds(reachable(words, kind, p, h), Refusal::NotReachable)?;
+    holds(validated(words, kind, p, h), Refusal::NotValidated)?;
+    holds(room(words, kind, p), Refusal::BufferFull)?;
+    holds(store_pending(words, kind, p), Refusal::NoStorePending)?;
+    holds(clock_goes_on(words, kind), Refusal::ClockAtEnd)?;
+    holds(stores_young(words, kind), Refusal::StoreTooOld)?;
+    holds(none_assigned(words, kind, p), Refusal::StillAssigned)
 }
 
-// The refusal of a step: the first question with the answer no.
-pub fn refusal(
-    words: &[u32],
-    kind: u32,
-    p: ProcessId,
-    h: HazardId,
-    c: NodeId,
-    guest: u32,
-) -> Result<(), Refusal>
+// Asks from question 6 on: first what the step names, by the table.
+#[inline(always)]
+fn named(words: &[u32], kind: Kind, step: Step) -> Result<(), Refusal>
     requires { Sound words.now }
-    ensures { refusal_in result ≡ refusal_of (kind_of kind) (decode words.now) (given kind p.0 h.0 c.0 guest) }
+    ensures { refusal_in result ≡ first_no (drop asked_first (asked_step (kind_value kind) words.now (step_value step))) }
 {
-    if !kinds::known(kind) {
-        Err(Refusal::UnknownKind)
-    } else if !process_in_range(words, kind, p) {
-        Err(Refusal::NoSuchProcess)
-    } else if !present_or_joins(words, kind, p) {
-        Err(Refusal::WrongAttendance)
-    } else if !unburdened(words, kind, p) {
-        Err(Refusal::Burdened)
-    } else if !takes_over(words, kind, p, c) {
-        Err(Refusal::NobodyTakesOver)
-    } else {
-        named(words, kind, p, h, c, guest)
-    }
+    let (p, c) = (step.process, step.node);
+    holds(
+        hazard_in_range(words, kind, step.hazard),
+        Refusal::NoSuchHazard,
+    )?;
+    holds(node_in_range(words, kind, c), Refusal::NoSuchNode)?;
+    holds(limit_in_range(kind, step.guest), Refusal::LimitOutOfRange)?;
+    holds(state_met(words, kind, c), Refusal::WrongState)?;
+    holds(owned(words, kind, p, c), Refusal::NotOwner)?;
+    rest(words, kind, step)
+}
+
+// Asks a step of this kind, whatever its own kind field: with the kind as a literal only its own questions are left.
+#[inline(always)]
+pub fn ask(words: &[u32], kind: Kind, step: Step) -> Result<(), Refusal>
+    requires { Sound words.now }
+    ensures { refusal_in result ≡ refusal_of (kind_value kind) (decode words.now) (step_value step) }
+{
+    let (p, c) = (step.process, step.node);
+    holds(process_in_range(words, kind, p), Refusal::NoSuchProcess)?;
+    holds(present_or_joins(words, kind, p), Refusal::WrongAttendance)?;
+    holds(unburdened(words, kind, p), Refusal::Burdened)?;
+    holds(takes_over(words, kind, p, c), Refusal::NobodyTakesOver)?;
+    named(words, kind, step)
+}
+
+// Asks a step.
+pub fn refusal(words: &[u32], step: Step) -> Result<(), Refusal>
+    requires { Sound words.now }
+    ensures { refusal_in result ≡ refusal_of (kind_of step.kind) (decode words.now) (step_value step) }
+{
+    ask(words, Kind::try_from(step.kind)?, step)
 }
