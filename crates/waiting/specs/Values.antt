@@ -1,12 +1,13 @@
 -- The rules' answer for each value of the code. Assumes nothing.
+use Rattle.std.specs.Prelude.{Result, Ok, Err}
 use Rattle.model.specs.Why as M
+use Rattle.refusals.specs.declared.Refusal.{Refusal}
+use Rattle.refusals.specs.Numbers.{number}
 use Rattle.waiting.specs.declared.Reason.{Reason}
 use Rattle.waiting.specs.declared.Reason.TheVariants.{NotRetired, Young, Visible, Ready}
 use Rattle.waiting.specs.declared.Behind.{Behind}
 use Rattle.waiting.specs.declared.Behind.TheVariants.{NotAsked, Nobody, Lagging}
 use Rattle.waiting.specs.declared.Why.{Why}
-use Rattle.waiting.specs.declared.Explained.{Explained}
-use Rattle.waiting.specs.declared.Explained.TheVariants.{Refused, Told}
 
 abbrev pub reason_value : Reason → M.Reason
 reason_value (NotRetired s) = M.NotRetired s
@@ -22,6 +23,6 @@ behind_value (Lagging q) = M.Lagging q.0
 abbrev pub why_value : Why → M.Why
 why_value w = record { reason = reason_value w.reason; behind = behind_value w.behind }
 
-abbrev pub explained_value : Explained → M.Explained
-explained_value (Refused n) = M.Refused n
-explained_value (Told w) = M.Told (why_value w)
+abbrev pub explained_value : Result Why Refusal → M.Explained
+explained_value (Ok w) = M.Told (why_value w)
+explained_value (Err r) = M.Refused (number r)

@@ -11,6 +11,7 @@ ghost use Rattle.waiting.specs.Values.{reason_value, behind_value, explained_val
 
 use layout::words::{paths, states};
 use layout::{HazardId, Node, NodeId, ProcessId};
+use refusals::Refusal;
 
 // Why a node is still waiting: the first of these that is true.
 #[derive(Clone, Copy)]
@@ -38,14 +39,6 @@ pub enum Behind {
 pub struct Why {
     pub reason: Reason,
     pub behind: Behind,
-}
-
-// What a call that asks why answers.
-#[derive(Clone, Copy)]
-pub enum Explained {
-    // 3 or 7.
-    Refused(u32),
-    Told(Why),
 }
 
 // ---- the four answers
@@ -109,14 +102,14 @@ fn behind_in(words: &[u32]) -> Behind
 // ---- both
 
 // Why node c is still waiting, and who is behind; refused with 7 unless the node is one of the domain's.
-pub fn explain(words: &[u32], c: NodeId) -> Explained
+pub fn explain(words: &[u32], c: NodeId) -> Result<Why, Refusal>
     requires { Sound words.now }
     ensures { explained_value result ≡ explained (decode words.now) c.0 }
 {
     if domain::bounds(words).nodes <= c.0 {
-        return Explained::Refused(questions::NO_SUCH_NODE);
+        return Err(Refusal::NoSuchNode);
     }
     let reason = reason_of(words, c);
     let behind = behind_in(words);
-    Explained::Told(Why { reason, behind })
+    Ok(Why { reason, behind })
 }
