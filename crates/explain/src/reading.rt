@@ -14,7 +14,8 @@ ghost use Rattle.explain.specs.Input.{marked, words_in, in_book, in_words, expla
 use layout::NodeId;
 use layout::words::most;
 use trace::widths::WORD;
-use trace::{Header, Opened, widths};
+use refusals::Refusal;
+use trace::{Header, widths};
 use waiting::Explained;
 
 // ---- a step book
@@ -43,10 +44,9 @@ fn in_found(bytes: &[u8], header: Header, card: u32) -> Explained
 fn in_book(bytes: &[u8], card: u32) -> Explained
     ensures { explained_value result ≡ in_book card (trace_of bytes.now) }
 {
-    let opened = trace::open_trace(bytes);
-    match opened {
-        Opened::Found(header) => in_found(bytes, header, card),
-        _ => Explained::Refused(trace::refusal(opened)),
+    match trace::open_trace(bytes) {
+        Ok(header) => in_found(bytes, header, card),
+        Err(refusal) => Explained::Refused(u32::from(refusal)),
     }
 }
 
@@ -102,7 +102,7 @@ pub fn asked(bytes: &[u8], card: u32) -> Explained
     ensures { explained_value result ≡ explained_in card bytes.now }
 {
     if widths::most::BYTES < bytes.len() {
-        return Explained::Refused(trace::refusal(Opened::TooLong));
+        return Explained::Refused(u32::from(Refusal::TooLong));
     }
     if marked(bytes) {
         return in_book(bytes, card);

@@ -9,7 +9,7 @@ ghost use Rattle.trace.specs.Values.{header_value};
 ghost use Rattle.print.specs.Printed.{print_room, Prints};
 
 use layout::words::most;
-use trace::{Header, Opened};
+use trace::Header;
 
 // Prints a book that was found, replayed on words of its own.
 fn print_found(bytes: &[u8], header: Header, out: &mut [u8]) -> usize
@@ -27,9 +27,8 @@ pub fn print_book(bytes: &[u8], out: &mut [u8]) -> usize
     requires { print_room (length bytes.now) ≤ length out.old }
     ensures { Prints bytes.now out.new result }
 {
-    let opened = trace::open_trace(bytes);
-    match opened {
-        Opened::Found(header) => print_found(bytes, header, out),
-        _ => text::put_refused(out, trace::refusal(opened)),
+    match trace::open_trace(bytes) {
+        Ok(header) => print_found(bytes, header, out),
+        Err(refusal) => text::put_refused(out, u32::from(refusal)),
     }
 }

@@ -8,7 +8,9 @@ use native.Mathlib.Omega.{arith}
 use lib.ListN.{length}
 use lib.Dec.{eqb}
 use borrow.Author.Tests.{eqb-true, eqb-false}
+use Rattle.std.specs.Prelude.{Result, Ok, Err}
 use Rattle.lists.specs.Tests.{every, count}
+use Rattle.refusals.specs.declared.Refusal.{Refusal}
 use Rattle.lists.proofs.Bools.{by_cond}
 use Rattle.model.specs.Params.{Params, buffer_size, word_count}
 use Rattle.model.specs.State.{Domain, Step, is_present}
@@ -34,8 +36,7 @@ use Rattle.trace.specs.Trace as T
 use Rattle.trace.specs.Trace.{Reading, refused, given, Front, front_at, front_of, trace_at, trace_of, trailer_right}
 use Rattle.trace.specs.Trace.{params_of, questioned}
 use Rattle.trace.specs.Values.{opened_value, refusal_of}
-use Rattle.trace.specs.declared.Opened.{Opened}
-use Rattle.trace.specs.declared.Opened.TheVariants.{Found, TooLong, NoTrailer, OutOfRange}
+use Rattle.trace.specs.declared.Header.{Header}
 use Rattle.qsense.specs.Calls.{Reply, refusing, through_words, make_words, step_words, portion_words}
 use Rattle.qsense.specs.Calls.{reachable_words}
 use Rattle.qsense.specs.Calls.{why_words, run_words}
@@ -119,11 +120,9 @@ number-asked f false t r = refl
 number-asked f true false r = refl
 number-asked f true true false = refl
 
-number-opened : (o : Opened) → refusal_of o ≡ number_in (opened_value o)
-number-opened (Found h) = refl
-number-opened TooLong = refl
-number-opened NoTrailer = refl
-number-opened OutOfRange = refl
+number-opened : (o : Result Header Refusal) → refusal_of o ≡ number_in (opened_value o)
+number-opened (Ok h) = refl
+number-opened (Err r) = refl
 
 pub demand-1 : Demand1
 unfolding make_words reachable_words why_words step_words portion_words trace_of front_of questioned

@@ -1,7 +1,9 @@
 -- The user's demands, of the calls on words. The run starts from what `make` leaves on any slice that it accepts; each step has five
 -- arbitrary numbers and gets the words as the last one left them. Theorems: proofs/Theorems.antt. Assumes nothing.
 use Rattle.std.specs.Prelude.{ℕ, ◌+◌, ◌<◌, ◌≤◌, Bool, true, false, cond, List, [], ◌∷◌, ◌≡◌, ◌≢◌, length, set, leb, eqb}
+use Rattle.std.specs.Prelude.{Result}
 use Rattle.lists.specs.Tests.{every, count, All}
+use Rattle.refusals.specs.declared.Refusal.{Refusal}
 use Rattle.model.specs.Params.{Params, most_ticks, delay, buffer_size, word_count}
 use Rattle.model.specs.State.{Domain, Step, process_of, is_present}
 use Rattle.model.specs.Kinds.{kind_of}
@@ -24,7 +26,7 @@ use Rattle.layout.specs.Ranges.{in_range}
 use Rattle.trace.specs.Widths.{most_bytes}
 use Rattle.trace.specs.Trace.{Reading, refused, given, trailer_right, params_of, front_of, trace_of}
 use Rattle.trace.specs.Values.{opened_value, refusal_of}
-use Rattle.trace.specs.declared.Opened.{Opened}
+use Rattle.trace.specs.declared.Header.{Header}
 use Rattle.qsense.specs.Calls.{Reply, PortionReply, refusing, declining, make_words, step_words, portion_words}
 use Rattle.qsense.specs.Calls.{reachable_words, why_words, run_words}
 use Rattle.qsense.specs.Numbers.{numbers_of}
@@ -80,7 +82,7 @@ pub record Demand1 : Type 0 where
   pub portion : (ws : List ℕ) (p a l : ℕ) → RefusesPortion (step_questions ws (portion_step p a l)) ws (portion_words ws p a l)
   pub trace : (bs : List ℕ) → Declines (trace_questions bs) (trace_of bs)
   -- the number that the code answers for what comes of opening one
-  pub opened : (bs : List ℕ) (o : Opened) → opened_value o ≡ front_of bs → refusal_of o ≡ first_no (trace_questions bs)
+  pub opened : (bs : List ℕ) (o : Result Header Refusal) → opened_value o ≡ front_of bs → refusal_of o ≡ first_no (trace_questions bs)
 
 -- ---- Demand 2: after any run the panel call itself answers 0 and accepted publishes and reinserts less accepted removes
 

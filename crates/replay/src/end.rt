@@ -11,7 +11,6 @@ ghost use Rattle.trace.specs.Values.{header_value};
 ghost use Rattle.trace.specs.Widths.{step_size, most_steps};
 ghost use Rattle.replay.specs.Turn.{end_of};
 
-use layout::{HazardId, NodeId, ProcessId};
 use trace::Header;
 use trace::widths::step_byte;
 
@@ -27,9 +26,9 @@ fn take_steps(words: &mut [u32], bytes: &[u8], first: usize, count: u32)
         steps::step_known(
             words,
             step.kind,
-            ProcessId(step.process),
-            HazardId(step.hazard),
-            NodeId(step.node),
+            step.process,
+            step.hazard,
+            step.node,
             step.guest,
         );
         i += 1;

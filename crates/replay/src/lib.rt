@@ -15,7 +15,6 @@ ghost use Rattle.trace.specs.Widths.{step_size, most_steps};
 ghost use Rattle.replay.specs.Most.{most_step_line};
 ghost use Rattle.replay.specs.Turn.{count_after, Counted, Taken, Ran, Ready, Replayed};
 
-use layout::{HazardId, NodeId, ProcessId};
 use trace::Header;
 use trace::widths::step_byte;
 
@@ -61,9 +60,9 @@ fn replay_step(
     let answer = steps::step_known(
         words,
         step.kind,
-        ProcessId(step.process),
-        HazardId(step.hazard),
-        NodeId(step.node),
+        step.process,
+        step.hazard,
+        step.node,
         step.guest,
     );
     let after = counted(reachable, step.kind, answer.refusal);

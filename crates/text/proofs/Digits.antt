@@ -1,12 +1,13 @@
 -- Digits stored from the last to the first, how many a small number has, one text after another, and a text copied. Assumes nothing.
 use Prim.Native.Nat.{ℕ, zero, suc, ◌+◌, ◌-◌, ◌/◌, ◌%◌, ◌<◌, ◌≤◌}
-use mathlib.Core.List.{List, [], ◌∷◌, ◌++◌}
+use mathlib.Core.List.{List, [], ◌∷◌, ◌++◌, append_assoc}
 use mathlib.Core.Path.{◌≡◌, refl, sym, ap, ◌∙◌}
 use mathlib.Core.Logic.{◌≢◌}
-use native.Mathlib.Numerals.{add-one}
 use native.Mathlib.Omega.{arith}
-use lib.ListN.{length, take, set, get_or, length-append}
-use lib.Seq.{sets, set_comm, length-take-le, take-suc, take_all}
+use lib.ListN.{length, take, drop, set, length-append}
+use lib.Seq.{sets, sets-eq, set_comm}
+use borrow.Rule.Slice.PartMut.{put_mid}
+use Rattle.std.proofs.lemmas.List.{drop-drop}
 use borrow.Author.Tests.{lt-ltb}
 use Rattle.lists.proofs.RowParts.{take-sets}
 use Rattle.text.specs.Text.{digits, digit_count, Put, number_text, number_size}
@@ -109,41 +110,16 @@ put-take page at text n page' at' p h =
     ap (λ (x : List ℕ). take at' x) p.bytes
     ∙ take-sets text page at at' (omega (arith, p.ends, p.long)) (omega (arith, p.ends))
 
--- ---- a text copied byte by byte
+-- ---- a text copied
 
--- one byte more of it
-pub copied : (page text page' : List ℕ) (at i : ℕ) → i < length text → page' ≡ sets page at (take i text)
-    → set page' (at + i) (get_or text i 0) ≡ sets page at (take (i + 1) text)
-copied page text page' at i h e =
-    let n : at + i ≡ at + length (take i text) = omega (arith, length-take-le i text (omega arith)) in
-    (λ t. set (e t) (n t) (get_or text i 0))
-    ∙ sets-append (take i text) (get_or text i 0 ∷ []) page at
-    ∙ rw (add-one, take-suc text i 0 h)
-
--- all of it
-pub all-copied : (page text page' : List ℕ) (at i : ℕ) → length text ≤ i → i ≤ length text → page' ≡ sets page at (take i text)
-    → Put page at text (length text) page' (at + i)
-all-copied page text page' at i h k e =
-    record { bytes = e ∙ ap (λ (x : List ℕ). sets page at x) (take_all i text h); long = refl; ends = omega arith }
-
--- ---- bytes stored one by one
-
--- four
-pub four : (page : List ℕ) (at a b c d : ℕ)
-    → Put page at (a ∷ b ∷ c ∷ d ∷ []) 4 (set (set (set (set page at a) (at + 1) b) (at + 2) c) (at + 3) d) (at + 4)
-four page at a b c d =
-    let e : at + 1 ≡ suc at = omega arith in
-    let f : at + 2 ≡ suc (suc at) = omega arith in
-    let g : at + 3 ≡ suc (suc (suc at)) = omega arith in
-    record { bytes = λ t. set (set (set (set page at a) (e t) b) (f t) c) (g t) d; long = refl; ends = refl }
-
--- five at the start
-pub five : (page : List ℕ) (a b c d e : ℕ)
-    → Put page 0 (a ∷ b ∷ c ∷ d ∷ e ∷ []) 5 (set (set (set (set (set page 0 a) 1 b) 2 c) 3 d) 4 e) 5
-five page a b c d e = record { bytes = refl; long = refl; ends = refl }
-
--- eight there
-pub eight : (page : List ℕ) (a b c d e f g h : ℕ)
-    → Put page 0 (a ∷ b ∷ c ∷ d ∷ e ∷ f ∷ g ∷ h ∷ []) 8
-    (set (set (set (set (set (set (set (set page 0 a) 1 b) 2 c) 3 d) 4 e) 5 f) 6 g) 7 h) 8
-eight page a b c d e f g h = record { bytes = refl; long = refl; ends = refl }
+pub copied : (page text : List ℕ) (at e : ℕ) → at + length text ≤ length page → e ≡ at + length text
+    → Put page at text (length text) (put_mid at (e - at) page text) e
+copied page text at e h q =
+    let n : e - at ≡ length text = omega arith in
+    record {
+      bytes = ap (λ (k : ℕ). put_mid at k page text) n
+          ∙ ap (λ (r : List ℕ). take at page ++ (text ++ r)) (drop-drop (length text) at page)
+          ∙ sym (sets-eq text page at h ∙ append_assoc (take at page) text (drop (at + length text) page));
+      long = refl;
+      ends = q;
+    }

@@ -3,7 +3,7 @@
 
 ghost use Rattle.std.specs.Prelude.{◌≡◌, ◌+◌, ◌≤◌, ◌<◌, length};
 ghost use Rattle.layout.specs.Values.{params_value};
-ghost use Rattle.text.specs.Text.{digit_count, Put, number_text, number_size, desk_word, end_word, refused_word};
+ghost use Rattle.text.specs.Text.{digit_count, Put, number_text, number_size};
 ghost use Rattle.text.specs.Text.{params_text, params_text_size, step_text, step_text_size, end_text, end_text_size, refused_text, refused_text_size};
 
 use layout::Params;
@@ -17,37 +17,22 @@ fn digit(n: u32) -> u8
 }
 
 // How many decimal digits n has.
+#[tactic(auto, unfolding(crate::specs::Text::digit_count))]
 fn digit_count(n: u32) -> usize
     ensures { (result ≡ digit_count n) × (1 ≤ result) × (result ≤ 10) }
 {
-    if n < 10 {
-        return 1;
+    match n {
+        0..=9 => 1,
+        10..=99 => 2,
+        100..=999 => 3,
+        1000..=9999 => 4,
+        10000..=99999 => 5,
+        100000..=999999 => 6,
+        1000000..=9999999 => 7,
+        10000000..=99999999 => 8,
+        100000000..=999999999 => 9,
+        _ => 10,
     }
-    if n < 100 {
-        return 2;
-    }
-    if n < 1000 {
-        return 3;
-    }
-    if n < 10000 {
-        return 4;
-    }
-    if n < 100000 {
-        return 5;
-    }
-    if n < 1000000 {
-        return 6;
-    }
-    if n < 10000000 {
-        return 7;
-    }
-    if n < 100000000 {
-        return 8;
-    }
-    if n < 1000000000 {
-        return 9;
-    }
-    10
 }
 
 // Puts n's digits from `at` on, then the byte `after`, and answers the place after it.
@@ -62,10 +47,8 @@ pub fn put_number(out: &mut [u8], at: usize, n: u32, after: u8) -> usize
     }
     let end = at + digit_count(n);
     out[end] = after;
-    let mut i = end;
     let mut rest = n;
-    while i > at {
-        i -= 1;
+    for i in (at..end).rev() {
         out[i] = digit(rest % 10);
         rest /= 10;
     }
@@ -73,55 +56,14 @@ pub fn put_number(out: &mut [u8], at: usize, n: u32, after: u8) -> usize
 }
 
 // Puts a text from `at` on, and answers the place after it.
+#[tactic(auto, using(crate::proofs::Digits::copied))]
 pub fn put_bytes(out: &mut [u8], at: usize, text: &[u8]) -> usize
     requires { at + length text.now ≤ length out.old }
     ensures { Put out.old at text.now (length text.now) out.new result }
 {
-    let mut i = 0;
-    while i < text.len() {
-        out[at + i] = text[i];
-        i += 1;
-    }
-    at + i
-}
-
-// The words that lines begin with: `desk` at the start, `end` where the last line goes, `refused` at the start.
-fn put_desk_word(out: &mut [u8]) -> usize
-    requires { length desk_word ≤ length out.old }
-    ensures { Put out.old 0 desk_word (length desk_word) out.new result }
-{
-    out[0] = b'd';
-    out[1] = b'e';
-    out[2] = b's';
-    out[3] = b'k';
-    out[4] = b' ';
-    5
-}
-
-fn put_end_word(out: &mut [u8], at: usize) -> usize
-    requires { at + length end_word ≤ length out.old }
-    ensures { Put out.old at end_word (length end_word) out.new result }
-{
-    out[at] = b'e';
-    out[at + 1] = b'n';
-    out[at + 2] = b'd';
-    out[at + 3] = b' ';
-    at + 4
-}
-
-fn put_refused_word(out: &mut [u8]) -> usize
-    requires { length refused_word ≤ length out.old }
-    ensures { Put out.old 0 refused_word (length refused_word) out.new result }
-{
-    out[0] = b'r';
-    out[1] = b'e';
-    out[2] = b'f';
-    out[3] = b'u';
-    out[4] = b's';
-    out[5] = b'e';
-    out[6] = b'd';
-    out[7] = b' ';
-    8
+    let end = at + text.len();
+    out[at..end].copy_from_slice(text);
+    end
 }
 
 // The first line, at the start: the seven parameters.
@@ -129,7 +71,7 @@ pub fn put_params(out: &mut [u8], params: Params) -> usize
     requires { params_text_size (params_value params) ≤ length out.old }
     ensures { Put out.old 0 (params_text (params_value params)) (params_text_size (params_value params)) out.new result }
 {
-    let mut at = put_desk_word(out);
+    let mut at = put_bytes(out, 0, b"desk ");
     at = put_number(out, at, params.processes, b' ');
     at = put_number(out, at, params.hazards, b' ');
     at = put_number(out, at, params.nodes, b' ');
@@ -164,17 +106,18 @@ pub fn put_end(out: &mut [u8], start: usize, clock: u32, path: u32, reachable: u
     requires { start + end_text_size clock path reachable ≤ length out.old }
     ensures { Put out.old start (end_text clock path reachable) (end_text_size clock path reachable) out.new result }
 {
-    let mut at = put_end_word(out, start);
+    let mut at = put_bytes(out, start, b"end ");
     at = put_number(out, at, clock, b' ');
     at = put_number(out, at, path, b' ');
     put_number(out, at, reachable, b'\n')
 }
 
 // The one line of a book that is refused, at the start.
+#[tactic(auto, using(crate::proofs::Digits::put_then))]
 pub fn put_refused(out: &mut [u8], refusal: u32) -> usize
     requires { refused_text_size refusal ≤ length out.old }
     ensures { Put out.old 0 (refused_text refusal) (refused_text_size refusal) out.new result }
 {
-    let at = put_refused_word(out);
+    let at = put_bytes(out, 0, b"refused ");
     put_number(out, at, refusal, b'\n')
 }

@@ -4,4 +4,3 @@ pub mod Shifted
 pub mod ReadBack
 pub mod AtTheEdge
 pub mod Theorems
-pub mod Refused

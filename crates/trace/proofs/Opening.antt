@@ -1,16 +1,20 @@
 -- The questions of a trace one by one: what each answer gives, and the room that a right trailer has. Assumes nothing.
-use Prim.Native.Nat.{ℕ, ◌+◌, ◌*◌, ◌-◌, ◌≤◌, ◌<◌}
+use Prim.Native.Nat.{ℕ, suc, ◌+◌, ◌*◌, ◌-◌, ◌≤◌, ◌<◌}
 use mathlib.Core.Bool.{Bool, true, false, ◌&&◌}
-use mathlib.Core.List.{List}
-use mathlib.Core.Path.{◌≡◌, refl, sym, ◌∙◌}
+use mathlib.Core.List.{List, [], ◌∷◌}
+use mathlib.Core.Path.{◌≡◌, refl, sym, ap, ◌∙◌}
 use native.Mathlib.Omega.{arith}
-use lib.ListN.{length}
+use lib.ListN.{length, get_or, take, drop}
+use Rattle.std.specs.List.{starts_with}
+use Rattle.std.proofs.lemmas.List.{take_all, length-drop}
+use Rattle.std.proofs.Math.Bool.{and-true}
+use Rattle.std.proofs.Math.Seq.{drop-cons}
 use lib.Dec.{leb, eqb}
 use borrow.Author.Tests.{le-leb, lt-leb, leb-true, leb-false, eqb-true, eq-eqb}
 use Rattle.lists.proofs.Bools.{both}
 use Rattle.layout.specs.Ranges.{in_range}
 use Rattle.trace.specs.Widths.{step_size, least_size}
-use Rattle.trace.specs.Bytes.{mark_at, step_in, no_step, step_at}
+use Rattle.trace.specs.Bytes.{byte_at, mark_at, step_in, no_step, step_at}
 use Rattle.trace.specs.Trace.{refused, given, trailer_at, count_of, distance_of, trailer_right, params_of}
 use Rattle.trace.specs.Trace.{questioned}
 
@@ -31,6 +35,26 @@ step-inside bs i h = rw h
 pub step-outside : (bs : List ℕ) (i : ℕ) → leb (i + 12) (length bs) ≡ false → step_at bs i ≡ no_step
 unfolding step_at
 step-outside bs i h = rw h
+
+-- ---- the mark
+
+follows : (bs : List ℕ) (i j : ℕ) → j ≡ suc i → i < length bs → drop i bs ≡ get_or bs i 0 ∷ drop j bs
+follows bs i j e h = drop-cons bs i 0 h ∙ ap (λ n. get_or bs i 0 ∷ drop n bs) (sym e)
+
+swapped : (x y : ℕ) → eqb x y ≡ eqb y x
+swapped x y = grind arith
+
+-- what begins with QBAK from a on
+pub begins : (bs : List ℕ) (a : ℕ) → a + 4 ≤ length bs
+    → starts_with eqb (take (length bs - a) (drop a bs)) (81 ∷ 66 ∷ 65 ∷ 75 ∷ []) ≡ mark_at bs a
+unfolding mark_at
+begins bs a h =
+    let all = take_all (length bs - a) (drop a bs) (omega (arith, length-drop a bs)) in
+    let p = follows bs a (a + 1) (omega arith) (omega arith) in
+    let q = follows bs (a + 1) (a + 2) (omega arith) (omega arith) in
+    let r = follows bs (a + 2) (a + 3) (omega arith) (omega arith) in
+    let s = follows bs (a + 3) (a + 4) (omega arith) (omega arith) in
+    rw (all, p, q, r, s) (simp and-true (λ t. swapped 81 (byte_at bs a) t && (swapped 66 (byte_at bs (a + 1)) t && (swapped 65 (byte_at bs (a + 2)) t && swapped 75 (byte_at bs (a + 3)) t))))
 
 -- ---- the trailer
 

@@ -4,24 +4,15 @@
 pub mod widths;
 
 ghost use Rattle.std.specs.Prelude.{◌≡◌, ◌+◌, ◌<◌, ◌≤◌, length, leb};
-ghost use Rattle.layout.specs.Values.{params_value};
+ghost use Rattle.layout.specs.Values.{params_value, step_value};
 ghost use Rattle.trace.specs.Widths.{byte_range, word_size, params_size, step_size, least_size};
 ghost use Rattle.trace.specs.Bytes.{word_at, mark_at, params_at, step_in, step_at};
 ghost use Rattle.trace.specs.Trace.{distance_of, trailer_right, front_at, front_of};
-ghost use Rattle.trace.specs.Values.{step_value, header_value, opened_value, refusal_of};
+ghost use Rattle.trace.specs.Values.{header_value, opened_value};
 
-use layout::Params;
+use layout::{HazardId, NodeId, Params, ProcessId, Step};
+use refusals::Refusal;
 use widths::{most, params_byte, step_byte, trailer_byte};
-
-// The five numbers of a step. process, hazard and node (the paper's worker, slot and card) are counted from 0.
-#[derive(Clone, Copy)]
-pub struct Step {
-    pub kind: u32,
-    pub process: u32,
-    pub hazard: u32,
-    pub node: u32,
-    pub guest: u32,
-}
 
 // What stands before the steps: the parameters, how many steps there are, and the offset of the first; each next one is 12 bytes on.
 #[derive(Clone, Copy)]
@@ -31,34 +22,12 @@ pub struct Header {
     pub first: usize,
 }
 
-// What comes of opening a trace.
-#[derive(Clone, Copy)]
-pub enum Opened {
-    Found(Header),
-    // 18: more than 65,536 bytes.
-    TooLong,
-    // 19: no right trailer.
-    NoTrailer,
-    // 1: a parameter out of its range.
-    OutOfRange,
-}
-
-// A byte as a number.
-fn wide(x: u8) -> u32
-    ensures { (result ≡ x) × (result < byte_range) }
-{
-    x as u32
-}
-
 // The number of the four bytes from at on, the lowest first.
 pub fn word_at(bytes: &[u8], at: usize) -> u32
     requires { at + word_size ≤ length bytes.now }
     ensures { result ≡ word_at bytes.now at }
 {
-    wide(bytes[at])
-        + 256 * wide(bytes[at + 1])
-        + 65536 * wide(bytes[at + 2])
-        + 16777216 * wide(bytes[at + 3])
+    u32::from_le_bytes([bytes[at], bytes[at + 1], bytes[at + 2], bytes[at + 3]])
 }
 
 // Do the bytes QBAK stand from at on?
@@ -66,8 +35,7 @@ pub fn mark_at(bytes: &[u8], at: usize) -> bool
     requires { at + word_size ≤ length bytes.now }
     ensures { result ≡ mark_at bytes.now at }
 {
-    (bytes[at] == b'Q')
-        & ((bytes[at + 1] == b'B') & ((bytes[at + 2] == b'A') & (bytes[at + 3] == b'K')))
+    bytes[at..].starts_with(b"QBAK")
 }
 
 // Are there so many bytes from at on? Neither number is too large.
@@ -129,33 +97,21 @@ fn header_of(bytes: &[u8]) -> Header
 
 // Opens a trace: finds its parameters, the count of its steps and the first of them, or which question has the answer no. Bytes in front
 // of the parameters are not read.
-pub fn open_trace(bytes: &[u8]) -> Opened
+pub fn open_trace(bytes: &[u8]) -> Result<Header, Refusal>
     ensures { opened_value result ≡ front_of bytes.now }
 {
     if most::BYTES < bytes.len() {
-        return Opened::TooLong;
+        return Err(Refusal::TooLong);
     }
     if !trailer_right(bytes) {
-        return Opened::NoTrailer;
+        return Err(Refusal::NoTrailer);
     }
     let header = header_of(bytes);
     let params = header.params;
     if !layout::fresh::in_range(params) {
-        return Opened::OutOfRange;
+        return Err(Refusal::ParameterOutOfRange);
     }
-    Opened::Found(header)
-}
-
-// The paper's number for what comes of opening, 0 for a trace that is found.
-pub fn refusal(opened: Opened) -> u32
-    ensures { result ≡ refusal_of opened }
-{
-    match opened {
-        Opened::Found(_) => 0,
-        Opened::TooLong => 18,
-        Opened::NoTrailer => 19,
-        Opened::OutOfRange => 1,
-    }
+    Ok(header)
 }
 
 // The step in the 12 bytes from at on, of which the fourth is not read.
@@ -164,10 +120,10 @@ fn step_inside(bytes: &[u8], at: usize) -> Step
     ensures { (step_value result ≡ step_in bytes.now at) × (result.kind < byte_range) }
 {
     Step {
-        kind: wide(bytes[at]),
-        process: wide(bytes[at + step_byte::PROCESS]),
-        hazard: wide(bytes[at + step_byte::HAZARD]),
-        node: word_at(bytes, at + step_byte::NODE),
+        kind: u32::from(bytes[at]),
+        process: ProcessId(u32::from(bytes[at + step_byte::PROCESS])),
+        hazard: HazardId(u32::from(bytes[at + step_byte::HAZARD])),
+        node: NodeId(word_at(bytes, at + step_byte::NODE)),
         guest: word_at(bytes, at + step_byte::GUEST),
     }
 }
@@ -179,9 +135,9 @@ pub fn step_at(bytes: &[u8], at: usize) -> Step
     if !holds(bytes, at, step_byte::WIDTH) {
         return Step {
             kind: 0,
-            process: 0,
-            hazard: 0,
-            node: 0,
+            process: ProcessId(0),
+            hazard: HazardId(0),
+            node: NodeId(0),
             guest: 0,
         };
     }

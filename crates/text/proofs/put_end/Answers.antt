@@ -7,4 +7,4 @@ returns c =
     put_then _ _ _ _ _ _ _ _ _ _
     (put_then _ _ _ _ _ _ _ _ _ _
     (put_then _ _ _ _ _ _ _ _ _ _
-    c.put_end_word-at.ensures c.put_number-at.ensures) c.put_number-at-2.ensures) c.put_number.ensures
+    c.put_bytes-at.ensures c.put_number-at.ensures) c.put_number-at-2.ensures) c.put_number.ensures

@@ -1,5 +1,5 @@
 -- `text::put_number` meets its contract. The loop's invariant: with the digits that are left stored too, the buffer is what it is to be.
--- The measure is how many are left. Assumes nothing.
+-- Assumes nothing.
 use Prim.Native.Nat.{◌+◌, ◌-◌}
 use mathlib.Core.Path.{refl, ◌∙◌}
 use native.Mathlib.Omega.{arith}

@@ -4,7 +4,7 @@ use Rattle.text.proofs.put_params.Goals as goal
 
 pub returns : goal.returns
 returns c =
-    let upto-second = put_then _ _ _ _ _ _ _ _ _ _ c.put_desk_word-at.ensures c.put_number-at.ensures in
+    let upto-second = put_then _ _ _ _ _ _ _ _ _ _ c.put_bytes-at.ensures c.put_number-at.ensures in
     let upto-third = put_then _ _ _ _ _ _ _ _ _ _ upto-second c.put_number-at-2.ensures in
     let upto-fourth = put_then _ _ _ _ _ _ _ _ _ _ upto-third c.put_number-at-3.ensures in
     let upto-fifth = put_then _ _ _ _ _ _ _ _ _ _ upto-fourth c.put_number-at-4.ensures in

@@ -1,8 +1,7 @@
--- `trace::mark_at` meets its contract: four bytes that are there. Assumes nothing.
-use Rattle.trace.specs.Bytes.{mark_at}
-use borrow.Author.Rules.{rules}
+-- `trace::mark_at` meets its contract: the four bytes are there. Assumes nothing.
+use mathlib.Core.Path.{◌∙◌}
+use Rattle.trace.proofs.Opening.{begins}
 use Rattle.trace.proofs.mark_at.Goals as goal
 
 pub returns : goal.returns
-unfolding mark_at
-returns c = search rules
+returns c = c.starts_with.ensures.value ∙ begins _ _ c.requires

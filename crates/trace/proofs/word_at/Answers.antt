@@ -1,8 +1,8 @@
--- `trace::word_at` meets its contract: each byte is below 256, so the sum is below 2 ^ 32. Assumes nothing.
+-- `trace::word_at` meets its contract: the four bytes, the lowest first. Assumes nothing.
+use Rattle.std.proofs.Common.{arith, ◌∙◌}
 use Rattle.trace.specs.Bytes.{word_at}
-use borrow.Author.Rules.{rules}
 use Rattle.trace.proofs.word_at.Goals as goal
 
 pub returns : goal.returns
 unfolding word_at
-returns c = search rules
+returns c = c.from_le_bytes.ensures ∙ omega arith
