@@ -1,6 +1,6 @@
 -- The model's questions of a step on words, by their numbers, and what the words say of the things that they are about. Assumes nothing.
 use Rattle.std.specs.Prelude.{ℕ, Bool, true, cond, List, [], ◌∷◌, eqb}
-use Rattle.model.specs.State.{Hazard, Node, Step, hazard_of, node_of}
+use Rattle.model.specs.State.{Hazard, Node, hazard_of, node_of}
 use Rattle.model.specs.Kinds.{Kind, number_of}
 use Rattle.model.specs.Hazards.{target}
 use Rattle.model.specs.Questions.{Question, questions}
@@ -12,12 +12,9 @@ abbrev pub answer_to : ℕ → List Question → Bool
 answer_to n [] = true
 answer_to n (q ∷ qs) = cond (eqb q.number n) q.yes' (answer_to n qs)
 
--- the questions of a step of kind k; and of this process, hazard, node and guest
-abbrev pub asked_step : Kind → List ℕ → Step → List Question
-asked_step k ws s = questions k (decode ws) s
-
+-- the questions of a step of kind k, and of this process, hazard, node and guest
 abbrev pub asked : Kind → List ℕ → ℕ → ℕ → ℕ → ℕ → List Question
-asked k ws p h c guest = asked_step k ws (given (number_of k) p h c guest)
+asked k ws p h c guest = questions k (decode ws) (given (number_of k) p h c guest)
 
 -- how many come first: 4, 5 and 20 to 22, which ask who takes the step
 abbrev pub asked_first : ℕ

@@ -7,13 +7,13 @@ pub mod read;
 
 ghost use Rattle.std.specs.Prelude.{[], ◌≡◌, MatchResult, true, false, drop};
 ghost use Rattle.model.specs.Kinds.{kind_of};
-ghost use Rattle.model.specs.Questions.{first_no, refusal_of};
+ghost use Rattle.model.specs.Questions.{questions, first_no, refusal_of};
 ghost use Rattle.layout.specs.Encode.{decode};
 ghost use Rattle.layout.specs.Sound.{Sound};
 ghost use Rattle.layout.specs.Values.{step_value};
 ghost use Rattle.refusals.specs.Numbers.{refusal_in};
 ghost use Rattle.kinds.specs.Table.{kind_value};
-ghost use Rattle.questions.specs.Answers.{answer_to, asked, asked_first, asked_of_all, asked_step};
+ghost use Rattle.questions.specs.Answers.{answer_to, asked, asked_first, asked_of_all};
 
 use kinds::{Kind, Meaning};
 use layout::words::{most, states};
@@ -188,11 +188,12 @@ fn holds(answer: bool, refusal: Refusal) -> Result<(), Refusal>
     if answer { Ok(()) } else { Err(refusal) }
 }
 
-// Asks from question 10 on, which are each of one kind or two.
+// Asks from question 10 on, which are each of one kind or two. The list is three functions: as one it is too long to be folded into the arm
+// of leave.
 #[inline(always)]
 fn rest(words: &[u32], kind: Kind, step: Step) -> Result<(), Refusal>
     requires { Sound words.now }
-    ensures { refusal_in result ≡ first_no (drop asked_of_all (asked_step (kind_value kind) words.now (step_value step))) }
+    ensures { refusal_in result ≡ first_no (drop asked_of_all (questions (kind_value kind) (decode words.now) (step_value step))) }
 {
     let (p, h) = (step.process, step.hazard);
     holds(assigned(words, kind, p, h), Refusal::NothingAssigned)?;
@@ -209,7 +210,7 @@ fn rest(words: &[u32], kind: Kind, step: Step) -> Result<(), Refusal>
 #[inline(always)]
 fn named(words: &[u32], kind: Kind, step: Step) -> Result<(), Refusal>
     requires { Sound words.now }
-    ensures { refusal_in result ≡ first_no (drop asked_first (asked_step (kind_value kind) words.now (step_value step))) }
+    ensures { refusal_in result ≡ first_no (drop asked_first (questions (kind_value kind) (decode words.now) (step_value step))) }
 {
     let (p, c) = (step.process, step.node);
     holds(

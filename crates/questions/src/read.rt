@@ -1,4 +1,6 @@
 // What a question looks at, for any process, hazard and node: past the last, zeros, as in the model.
+#![tactic(auto, unfolding(layout::specs::Encode::decode_by))]
+
 ghost use Rattle.std.specs.Prelude.{◌≡◌, ◌-◌};
 ghost use Rattle.model.specs.Hazards.{unassigned};
 ghost use Rattle.layout.specs.Shape.{lead_of};
@@ -54,24 +56,13 @@ pub fn hazard(words: &[u32], p: ProcessId, h: HazardId) -> Hazard
     domain::process::hazard(words, p, h)
 }
 
-// A hazard's node, stored as its number + 1, as a number; 0 for none.
-fn stored(node: u32) -> NodeId
-    ensures { result.0 ≡ node - 1 }
-{
-    if node == 0 {
-        NodeId(0)
-    } else {
-        NodeId(node - 1)
-    }
-}
-
-// The node assigned to hazard h of process p; the first where none is.
+// The node assigned to hazard h of process p, stored as its number + 1; the first where none is.
 pub fn hazard_node(words: &[u32], p: ProcessId, h: HazardId) -> Node
     requires { Sound words.now }
     ensures { node_value result ≡ target_in words.now p.0 h.0 }
 {
-    let node = stored(hazard(words, p, h).assigned);
-    domain::node(words, node)
+    let node = hazard(words, p, h).assigned.saturating_sub(1);
+    domain::node(words, NodeId(node))
 }
 
 // Node c.
