@@ -28,14 +28,8 @@ fn shift(buffer: &mut [u32])
     requires { length buffer.old ≡ buffer_width }
     ensures { buffer.new ≡ drop store_width buffer.old ++ (0 ∷ 0 ∷ 0 ∷ []) }
 {
-    let mut j = 0;
-    while j < LAST {
-        buffer[j] = buffer[j + store_word::WIDTH];
-        j += 1;
-    }
-    buffer[LAST + store_word::HAZARD] = 0;
-    buffer[LAST + store_word::NODE] = 0;
-    buffer[LAST + store_word::TIME] = 0;
+    buffer.copy_within(store_word::WIDTH.., 0);
+    buffer[LAST..].fill(0);
 }
 
 // Commits the oldest pending store.
@@ -56,15 +50,13 @@ pub fn flush(row: &mut [u32], at: Place)
     ensures { let x = held_in at row.old in row.new ≡ process_words (flushed x x.buffer) }
 {
     let stores = layout::wide(row[lead_word::STORES]);
-    let mut e = 0;
-    while e < stores {
+    for e in 0..stores {
         commit(row, at, e);
-        e += 1;
     }
     row[lead_word::STORES] = 0;
     let from = at.stores;
     let end = from + store_word::WIDTH * stores;
-    layout::clear(&mut row[from..end]);
+    row[from..end].fill(0);
 }
 
 // Is pending store e younger than the delay?
@@ -84,10 +76,8 @@ pub fn young(row: &[u32], at: Place, clock: u32, delay: u32) -> bool
 {
     let stores = layout::wide(row[lead_word::STORES]);
     let mut ok = true;
-    let mut e = 0;
-    while e < stores {
-        ok = ok & young_store(row, at, e, clock, delay);
-        e += 1;
+    for e in 0..stores {
+        ok &= young_store(row, at, e, clock, delay);
     }
     ok
 }

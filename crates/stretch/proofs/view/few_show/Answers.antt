@@ -1,5 +1,4 @@
--- `view::few_show` meets its contract. The invariant: found says whether one of the first h hazards shows the node. The measure: the
--- hazards that are left. Assumes nothing.
+-- `view::few_show` meets its contract. The invariant: found says whether one of the first h hazards shows the node. Assumes nothing.
 use Prim.Native.Nat.{ℕ}
 use mathlib.Core.Bool.{not}
 use mathlib.Core.Path.{◌≡◌, refl, ap, ◌∙◌}
@@ -12,17 +11,17 @@ use Rattle.stretch.proofs.view.few_show.Goals as goal
 
 pub loop-h-init : goal.loop-h-init
 unfolding all_upto
-loop-h-init c = (omega arith, refl, refl)
+loop-h-init c = refl
 
 pub loop-h-preserved : goal.loop-h-preserved
 loop-h-preserved c =
     let a = c.args in
     let l = c.loop-h in
-    (omega arith, l.invariant.1, hide-more (held_in a.at a.row.now) a.v l.h _ _ l.invariant.2 c.shows_at-found.ensures)
+    hide-more (held_in a.at a.row.now) a.v l.h _ _ l.invariant c.shows_at-found.ensures
 
 pub returns : goal.returns
 returns c =
     let a = c.args in
     let l = c.loop-h in
-    let e : l.h ≡ a.at.k = omega (arith, l.invariant.1) in
-    l.invariant.2 ∙ ap (λ (n : ℕ). not (hide (held_in a.at a.row.now) a.v 0 n)) e
+    let e : l.h ≡ a.at.k = omega arith in
+    l.invariant ∙ ap (λ (n : ℕ). not (hide (held_in a.at a.row.now) a.v 0 n)) e

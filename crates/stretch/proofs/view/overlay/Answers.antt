@@ -1,5 +1,4 @@
--- `view::overlay` meets its contract. The invariant: the stores from e on make what all make (`Overlaying`). The measure: the stores that are left.
--- Assumes nothing.
+-- `view::overlay` meets its contract. The invariant: the stores from e on make what all make (`Overlaying`). Assumes nothing.
 use Prim.Native.Nat.{◌+◌, ◌*◌}
 use mathlib.Core.Path.{◌∙◌}
 use lib.ListN.{length-set}
@@ -9,7 +8,7 @@ use native.Mathlib.Omega.{arith}
 use Rattle.stretch.proofs.view.overlay.Goals as goal
 
 pub loop-e-init : goal.loop-e-init
-loop-e-init c = (omega arith, omega arith, c.requires.1, overlay-starts)
+loop-e-init c = (omega arith, c.requires.1, overlay-starts)
 
 pub bounds-nodes-h : goal.bounds-nodes-h
 bounds-nodes-h c =
@@ -26,12 +25,9 @@ loop-e-preserved c =
     let from = c.args.at.stores + 3 * e in
     let target = c.wide-h.ensures.0 ∙ target_at _ _ h.words e (omega arith) (from + 0) (omega (arith, h.stores)) in
     let stored = stored_at _ _ h.words e (omega arith) (from + 1) (omega (arith, h.stores)) in
-    (omega arith, inv.1, simp length-set inv.2, overlay-turn inv.3 (omega arith) _ _ target stored)
-
-pub shape_of-nodes : goal.shape_of-nodes
-shape_of-nodes c = omega (arith, c.loop-e.invariant.2, c.requires.1)
+    (inv.0, simp length-set inv.1, overlay-turn inv.2 (omega arith) _ _ target stored)
 
 pub returns : goal.returns
 returns c =
     let inv = c.loop-e.invariant in
-    overlay-ends inv.3 (omega arith)
+    overlay-ends inv.2 (omega arith)

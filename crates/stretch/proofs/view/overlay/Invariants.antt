@@ -1,6 +1,5 @@
--- `view::overlay` meets its contract. The invariant: the stores from e on make what all make (`Overlaying`). The measure: the stores that are left.
+-- `view::overlay` meets its contract. The invariant: the stores from e on make what all make (`Overlaying`).
 -- Assumes nothing.
-use Prim.Native.Nat.{◌-◌, ◌≤◌}
 use mathlib.Core.Path.{◌≡◌}
 use lib.ListN.{length}
 use Rattle.layout.specs.Encode.{process_at}
@@ -9,7 +8,4 @@ use Rattle.stretch.proofs.view.overlay.Given as goal
 
 abbrev pub invariant-loop-e : goal.invariant-loop-e
 invariant-loop-e l =
-    (l.e ≤ l.stores) × (l.stores ≡ length (process_at l.at.k l.row).buffer) × (length l.nodes ≡ l.at.k) × Overlaying (process_at l.at.k l.row).buffer l.initial.nodes l.e l.nodes
-
-abbrev pub decreases-loop-e : goal.decreases-loop-e
-decreases-loop-e l = l.stores - l.e
+    (l.stores ≡ length (process_at l.at.k l.row).buffer) × (length l.nodes ≡ l.at.k) × Overlaying (process_at l.at.k l.row).buffer l.initial.nodes l.e l.nodes
