@@ -18,25 +18,9 @@ pub const PUBLISH: u32 = 2;
 
 pub const PROTECT: u32 = 3;
 
-pub const CHECK: u32 = 4;
-
-pub const USE: u32 = 5;
-
-pub const CLEAR: u32 = 6;
-
 pub const REMOVE: u32 = 7;
 
-pub const DRAIN: u32 = 9;
-
-pub const TICK: u32 = 11;
-
-pub const MANAGE: u32 = 12;
-
 pub const REINSERT: u32 = 14;
-
-pub const LEAVE: u32 = 15;
-
-pub const JOIN: u32 = 16;
 
 pub const PORTION: u32 = 17;
 

@@ -27,7 +27,7 @@ module _ {ws : List ℕ} (s : Sound ws) where
 
   -- a hazard with a node assigned is one of the hazards, and its node one of the nodes; of none, the first stands for it
   pub target_below : (p h : ℕ) {y : Hazard} → y ≡ hazard_in ws p h → y.assigned - 1 < (params_in ws).nodes
-  target_below p h {y} e = by (leb (decode ws).params.processes p) (leb (decode ws).params.hazards h) refl refl
+  target_below p h {y} e = by (leb (decode ws).params.processes p) (leb (decode ws).params.hazards h) (eqb y.assigned 0) refl refl refl
     where
       first : y.assigned ≡ 0 → y.assigned - 1 < (params_in ws).nodes
       first z = omega (arith, s.sizes.nodes)
@@ -35,14 +35,11 @@ module _ {ws : List ℕ} (s : Sound ws) where
       none : empty_hazard ≡ hazard_in ws p h → y.assigned - 1 < (params_in ws).nodes
       none q = first (ap (λ x. x.assigned) (e ∙ sym q))
 
-      by : (a b : Bool) → leb (decode ws).params.processes p ≡ a → leb (decode ws).params.hazards h ≡ b → y.assigned - 1 < (params_in ws).nodes
-      by true b ea eb = none (ap (λ x. hazard_of x h) (no_process_lem p (leb-true _ _ ea)))
-      by false true ea eb = none (no-hazard p h (leb-false _ _ ea) (leb-true _ _ eb))
-      by false false ea eb =
-          let lp : p < (params_in ws).processes = omega (arith, (head_words_lem ws).processes, leb-false (decode ws).params.processes p ea) in
-          let lh : h < (params_in ws).hazards = omega (arith, (head_words_lem ws).hazards, leb-false (decode ws).params.hazards h eb) in
-          some' (eqb y.assigned 0) refl lp lh
-        where
-          some' : (b : Bool) → eqb y.assigned 0 ≡ b → p < (params_in ws).processes → h < (params_in ws).hazards → y.assigned - 1 < (params_in ws).nodes
-          some' true z lp lh = first (eqb-true _ _ z)
-          some' false z lp lh = assigned-in s p h lp lh y e (eqb-false _ _ z)
+      by : (a b z : Bool) → leb (decode ws).params.processes p ≡ a → leb (decode ws).params.hazards h ≡ b → eqb y.assigned 0 ≡ z
+          → y.assigned - 1 < (params_in ws).nodes
+      by true b z ea eb ez = none (ap (λ x. hazard_of x h) (no_process_lem p (leb-true _ _ ea)))
+      by false true z ea eb ez = none (no-hazard p h (leb-false _ _ ea) (leb-true _ _ eb))
+      by false false true ea eb ez = first (eqb-true _ _ ez)
+      by false false false ea eb ez =
+          let m = head_words_lem ws in
+          assigned-in s p h (omega (arith, m.processes, leb-false _ p ea)) (omega (arith, m.hazards, leb-false _ h eb)) y e (eqb-false _ _ ez)
