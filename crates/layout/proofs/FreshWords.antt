@@ -3,7 +3,6 @@ use Prim.Native.Nat.{ℕ, zero, suc, ◌+◌, ◌*◌}
 use mathlib.Core.List.{List, [], ◌∷◌, ◌++◌, append_assoc}
 use mathlib.Core.Path.{◌≡◌, refl, sym, ◌∙◌, ap}
 use native.Mathlib.Omega.{arith}
-use native.Mathlib.Numerals.{add-one}
 use lib.ListN.{length, set, replicate, replicate-append-replicate, length-replicate}
 use lib.Seq.{sets}
 use Rattle.lists.specs.Rows.{rows}
@@ -26,11 +25,7 @@ abbrev pub present_to : ℕ → ℕ → List ℕ → List ℕ
 present_to k zero ws = ws
 present_to k (suc n) ws = set (present_to k n ws) (process_start shape k n + present_word) 1
 
--- one more, and as many as there are
-pub present-next : (k p i : ℕ) (ws w : List ℕ) → w ≡ present_to k p ws → i ≡ process_start shape k p
-    → set w (i + present_word) 1 ≡ present_to k (p + 1) ws
-present-next k p i ws w e f = rw (e, f, add-one p)
-
+-- as many as there are
 pub present-all : (k p n : ℕ) (ws w : List ℕ) → w ≡ present_to k p ws → p ≡ n → w ≡ present_to k n ws
 present-all k p n ws w e f = e ∙ ap (λ (m : ℕ). present_to k m ws) f
 

@@ -47,7 +47,7 @@ pub fn write_fresh(words: &mut [u32], params: Params)
     requires { InRange (params_value params) × (length words.old ≡ word_count (params_value params)) }
     ensures { words.new ≡ encode (fresh (params_value params)) }
 {
-    crate::clear(words);
+    words.fill(0);
     words[head_word::PROCESSES] = params.processes;
     words[head_word::HAZARDS] = params.hazards;
     words[head_word::NODES] = params.nodes;
@@ -55,10 +55,8 @@ pub fn write_fresh(words: &mut [u32], params: Params)
     words[head_word::QUIESCENCE] = params.quiescence;
     words[head_word::FALLBACK] = params.fallback;
     words[head_word::LATENESS] = params.lateness;
-    let mut p: u32 = 0;
-    while p < params.processes {
+    for p in 0..params.processes {
         words[crate::process_start(params.hazards, p) + lead_word::PRESENT] = 1;
-        p += 1;
     }
 }
 

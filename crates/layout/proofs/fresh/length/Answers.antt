@@ -3,9 +3,6 @@ use mathlib.Core.Path.{sym, ◌∙◌}
 use Rattle.layout.specs.Ranges.{length_for}
 use Rattle.layout.proofs.fresh.length.Goals as goal
 
-pub word_count-requires : goal.word_count-requires
-word_count-requires c = sym c.sizes_in_range.ensures ∙ c.if-sizes_in_range.true
-
 pub returns-then-sizes_in_range : goal.returns-then-sizes_in_range
 unfolding length_for
 returns-then-sizes_in_range c = rw (sym c.sizes_in_range.ensures ∙ c.if-sizes_in_range.true) c.word_count.ensures

@@ -9,11 +9,5 @@ process_start-requires c = let f = sizes_in_range_lem _ _ _ c.requires in (f.haz
 pub nodes_width-requires : goal.nodes_width-requires
 nodes_width-requires c = (sizes_in_range_lem _ _ _ c.requires).nodes.1
 
-pub overflow_add-result : goal.overflow_add-result
-overflow_add-result c = omega (arith, sizes_in_range_lem _ _ _ c.requires, c.process_start.ensures.1, c.nodes_width.ensures)
-
 pub overflow_cast-result : goal.overflow_cast-result
 overflow_cast-result c = omega (arith, sizes_in_range_lem _ _ _ c.requires, c.process_start.ensures.1, c.nodes_width.ensures)
-
-pub returns : goal.returns
-returns c = omega (arith, c.process_start.ensures.0, c.nodes_width.ensures)
