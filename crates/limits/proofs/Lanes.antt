@@ -15,6 +15,10 @@ nor false b = refl
 last : (a b c : Bool) → (a && b && c) ≡ (a && c && b)
 last a b c = and_assoc a b c ∙ ap (λ (x : Bool). a && x) (and_comm b c) ∙ sym (and_assoc a c b)
 
+pub nothing-amiss : none (record { first = false; second = false; third = false; fourth = false; other = false }) ≡ true
+unfolding none
+nothing-amiss = refl
+
 pub noted-none : (f : Faults) (b : Bool)
     → none
     (record {

@@ -1,13 +1,14 @@
 -- A loop that counts the nodes that pass a test, from a place on: what holds at its head, where it starts, after a turn and where it ends.
 -- Assumes nothing.
 use Prim.Native.Nat.{ℕ, suc, ◌+◌, ◌-◌, ◌≤◌, ◌<◌}
-use mathlib.Core.Bool.{Bool, cond}
+use mathlib.Core.Bool.{Bool, true, false, cond}
 use mathlib.Core.List.{List, [], ◌∷◌}
-use mathlib.Core.Path.{◌≡◌, ap, ◌∙◌}
+use mathlib.Core.Path.{◌≡◌, refl, ap, ◌∙◌}
 use native.Mathlib.Omega.{arith}
 use native.Mathlib.Numerals.{add-one}
 use lib.ListN.{length, take, drop, drop_of_length-le}
 use lib.Seq.{drop-cons, drop-drop}
+use Rattle.std.specs.Int.{from_bool}
 use Rattle.lists.specs.Tests.{count}
 use Rattle.lists.proofs.Turns.{one-most}
 use Rattle.lists.proofs.Counts.{count-split}
@@ -15,6 +16,11 @@ use Rattle.model.specs.State.{Node, free_node}
 use Rattle.layout.specs.Nodes.{nodes_in}
 use Rattle.nodes.specs.Part.{node_in, Part}
 use Rattle.nodes.proofs.Words.{nodes-length}
+
+-- what a test adds
+pub added : (b : Bool) → from_bool b ≡ cond b 1 0
+added true = refl
+added false = refl
 
 -- of the nodes from one up to i so many pass: with those that are left, as many as of all from that one on
 pub record Counting (f : Node → Bool) (m : ℕ) (r : List ℕ) (from found i : ℕ) : Type 0 where
@@ -35,14 +41,14 @@ pub starts : {f : Node → Bool} {m : ℕ} {r : List ℕ} {from : ℕ} → Part 
 starts h l = record { part = h; start = omega arith; low = l; few = omega arith; rest = omega arith }
 
 module _ {f : Node → Bool} {m : ℕ} {r : List ℕ} {from found i : ℕ} (h : Counting f m r from found i) where
-  pub turn : {v : ℕ} → i < m → v ≡ cond (f (node_in m r i)) 1 0 → Counting f m r from (found + v) (i + 1)
+  pub turn : {v : ℕ} → i < m → v ≡ from_bool (f (node_in m r i)) → Counting f m r from (found + v) (i + 1)
   turn l e =
       record {
         part = h.part;
         start = omega arith;
         low = omega arith;
-        few = omega (arith, one-most (f (node_in m r i)), h.few);
-        rest = rw (add-one i) (omega (arith, e, h.rest, ap (count f) (here_on m r l)));
+        few = omega (arith, added (f (node_in m r i)), one-most (f (node_in m r i)), h.few);
+        rest = rw (add-one i) (omega (arith, e, added (f (node_in m r i)), h.rest, ap (count f) (here_on m r l)));
       }
 
   pub ends : m ≤ i → found ≡ count f (drop from (nodes_in m r))

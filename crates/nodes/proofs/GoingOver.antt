@@ -3,6 +3,7 @@ use Prim.Native.Nat.{ℕ, zero, suc, ◌+◌, ◌≤◌, ◌<◌}
 use mathlib.Core.Bool.{Bool, true, false, ◌&&◌, cond}
 use mathlib.Core.List.{List}
 use mathlib.Core.Path.{◌≡◌, refl, sym, ap, ◌∙◌}
+use Rattle.std.specs.Prelude.{Some, None}
 use native.Mathlib.Omega.{arith}
 use native.Mathlib.Numerals.{add-one}
 use lib.Seq.{take_all}
@@ -66,13 +67,15 @@ module _ {x b : Bool} {m : ℕ} {r ls : List ℕ} where
   goes_on_lem {i} h l known w hf hv hn g =
       record { fits = nodes-turn x r ls h l known w g.fits hf; counted = hn ∙ count-more (is_counted b) m r i g.counted l hv }
 
-  pub stops : {i : ℕ} → Part m r → i < m → Retired < (node_in m r i).state → Finds x b m r ls (record { fits = false; reachable = 0 })
+  pub stops : {i : ℕ} → Part m r → i < m → Retired < (node_in m r i).state → Finds x b m r ls None
   stops h l many = record { fits = nodes-stop x r ls h l many; counted = refl }
 
-  pub ends : {i : ℕ} {k : Known} {z : Bool} {n : ℕ} → i ≡ m → GoneOver x b m r ls i k → z ≡ none k.faults → n ≡ cond z k.reachable 0
-      → Finds x b m r ls (record { fits = z; reachable = n })
-  ends {i} {z = z} e g hz hn =
+  pub ends-well : {i : ℕ} {k : Known} → i ≡ m → GoneOver x b m r ls i k → true ≡ none k.faults → Finds x b m r ls (Some k.reachable)
+  ends-well {i} e g good =
       record {
-        fits = nodes-end x r ls e g.fits hz;
-        counted = hn ∙ ap (λ (c : ℕ). cond z c 0) (count-all (is_counted b) m r i g.counted (omega arith));
+        fits = nodes-end x r ls e g.fits good;
+        counted = ap (λ (n : ℕ). Some n) (count-all (is_counted b) m r i g.counted (omega arith));
       }
+
+  pub ends-amiss : {i : ℕ} {k : Known} → i ≡ m → GoneOver x b m r ls i k → false ≡ none k.faults → Finds x b m r ls None
+  ends-amiss e g bad = record { fits = nodes-end x r ls e g.fits bad; counted = refl }

@@ -7,6 +7,7 @@ use mathlib.Core.Path.{◌≡◌, sym, ap, ◌∙◌}
 use native.Mathlib.Omega.{arith}
 use native.Mathlib.Numerals.{add-one}
 use lib.ListN.{drop}
+use Rattle.std.specs.Int.{from_bool}
 use Rattle.lists.specs.Tests.{past_from}
 use Rattle.lists.proofs.Turns.{one-most}
 use Rattle.lists.proofs.Past.{past_more, past-none}
@@ -33,14 +34,15 @@ starts {f} {m} {r} {limit} {from} h l =
 
 module _ {f : Node → Bool} {m : ℕ} {r : List ℕ} {limit from found i : ℕ} (h : Reaching f m r limit from found i) where
   -- one more, where the limit is not reached
-  pub turn : {v : ℕ} → i < m → (found ≡ limit → ⊥) → v ≡ cond (f (node_in m r i)) 1 0 → Reaching f m r limit from (found + v) (i + 1)
+  pub turn : {v : ℕ} → i < m → (found ≡ limit → ⊥) → v ≡ from_bool (f (node_in m r i)) → Reaching f m r limit from (found + v) (i + 1)
   turn {v} l less e =
       let one = one-most (f (node_in m r i)) in
+      let more = counting.added (f (node_in m r i)) in
       let on : found < limit = omega (arith, h.most, less) in
-      let fewer : limit - found ≡ limit - (found + v) + cond (f (node_in m r i)) 1 0 = omega (arith, one, e, on) in
+      let fewer : limit - found ≡ limit - (found + v) + cond (f (node_in m r i)) 1 0 = omega (arith, one, more, e, on) in
       record {
         counted = counting.turn h.counted l e;
-        most = omega (arith, one, e, on);
+        most = omega (arith, one, more, e, on);
         rest =
             rw (add-one i)
             (sym (past_more f (limit - found) (limit - (found + v)) i (node_in m r i) (drop (suc i) (nodes_in m r)) (omega arith) fewer)
@@ -55,5 +57,7 @@ module _ {f : Node → Bool} {m : ℕ} {r : List ℕ} {limit from found i : ℕ}
       let none : limit - found ≡ 0 = omega arith in
       reached (sym (ap (λ (n : ℕ). past_from f n i (drop i (nodes_in m r))) none) ∙ h.rest)
 
-  pub ends : m ≤ i → Reached f limit from m (nodes_in m r) (record { next = i; examined = found })
-  ends l = reached (sym (ap (past_from f (limit - found) i) (counting.none-on m r l) ∙ past-none f (limit - found) i) ∙ h.rest)
+  pub ends : m ≤ i → Reached f limit from m (nodes_in m r) (record { next = m; examined = found })
+  ends l =
+      let e : i ≡ m = omega (arith, h.counted.low) in
+      rw e at (reached (sym (ap (past_from f (limit - found) i) (counting.none-on m r l) ∙ past-none f (limit - found) i) ∙ h.rest))

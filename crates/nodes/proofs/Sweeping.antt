@@ -8,10 +8,10 @@ use native.Mathlib.Omega.{arith}
 use native.Mathlib.Nat.{zero-add, add-zero}
 use native.Mathlib.Numerals.{add-one}
 use lib.ListN.{length, get_or, set, take, length-set, drop_of_length-le}
-use lib.Seq.{take_all, take-set-le, take-suc-set, length-take-le, get_or-take}
+use lib.Seq.{take_all, take-set-le, take-suc-set}
 use Rattle.lists.specs.Tests.{count_from, All}
 use Rattle.lists.specs.Sweep.{set_each}
-use Rattle.lists.proofs.Facts.{all-at, all_snoc}
+use Rattle.lists.proofs.Facts.{all_snoc}
 use Rattle.lists.proofs.Turns.{one-most, count-from-turn, swept_to, swept-turn, swept_kept, each-length, each_more}
 use Rattle.lists.proofs.Turns.{each_turn}
 use borrow.Author.Tests.{le-leb, lt-leb, lt-ltb, le-ltb}
@@ -21,7 +21,7 @@ use Rattle.model.specs.Retire.{within}
 use Rattle.layout.specs.Nodes.{nodes_words}
 use Rattle.layout.specs.Nodes.{nodes_in}
 use Rattle.nodes.specs.Part.{node_in, Part, with_node}
-use Rattle.nodes.specs.Sweeps.{Places, freed_at, Swept}
+use Rattle.nodes.specs.Sweeps.{freed_at, Swept}
 use Rattle.nodes.proofs.Words.{nodes-length, nodes-back, part-words, part-with}
 
 -- ---- the first pass
@@ -96,8 +96,9 @@ module _ {f : ℕ → Node → Bool} {m : ℕ} {r places : List ℕ} {count i : 
         passed = rw add-zero at (passed-more l false (sym e));
       }
 
-  pub noted : Places m places count
-  noted = record { room = h.room; few = omega (arith, h.few, h.low, h.part.few); below = h.below }
+  -- the places that are noted are there
+  pub room-for : count ≤ length places
+  room-for = omega (arith, h.room, h.few, h.low, h.part.few)
 
   pub notes-all : {r' : List ℕ} → m ≤ i → r' ≡ freed_at (take count places) m r → Swept f m r r' count
   notes-all l e =
@@ -136,37 +137,27 @@ module _ (g : ℕ → Node → Bool) (a b : ℕ) where
 
 -- ---- the second pass
 
--- the node at a place that is noted
-pub place-below : {m : ℕ} {places : List ℕ} {count j i : ℕ} → Places m places count → j < count → i ≡ j → get_or places i 0 < m
-place-below {m} {places} {count} {j} {i} h l e =
-    let k = length-take-le count places (omega (arith, h.room, h.few)) in
-    rw (e, ← get_or-take count places j 0 l) (all-at (λ c. c < m) (take count places) j 0 h.below (omega (arith, k)))
-
 -- the words r₀ are r now: the nodes at the first j places are freed
-pub record Freeing (m : ℕ) (places r₀ r : List ℕ) (count j : ℕ) : Type 0 where
+pub record Freeing (m : ℕ) (places r₀ r : List ℕ) (j : ℕ) : Type 0 where
   pub part : Part m r
-  pub low : j ≤ count
   pub words : r ≡ freed_at (take j places) m r₀
 
-pub frees-none : {m : ℕ} {places r : List ℕ} {count : ℕ} → Part m r → Freeing m places r r count 0
-frees-none h = record { part = h; low = omega arith; words = part-words h }
+pub frees-none : {m : ℕ} {places r : List ℕ} → Part m r → Freeing m places r r 0
+frees-none h = record { part = h; words = part-words h }
 
-module _ {m : ℕ} {places r₀ r : List ℕ} {count j : ℕ} (h : Freeing m places r₀ r count j) where
+module _ {m : ℕ} {places r₀ r : List ℕ} {j : ℕ} (h : Freeing m places r₀ r j) where
   now-nodes : nodes_in m r ≡ set_each free_node (take j places) (nodes_in m r₀)
   now-nodes = rw h.words (nodes-back (set_each free_node (take j places) (nodes_in m r₀)) (each-length free_node (take j places) (nodes_in m r₀) ∙ nodes-length m r₀))
 
-  pub frees-more : {r' : List ℕ} {c : ℕ} → Places m places count → j < count → c ≡ get_or places j 0 → r' ≡ with_node m r c free_node
-      → Freeing m places r₀ r' count (suc j)
-  frees-more {c = c} k l q e =
+  pub frees-more : {r' : List ℕ} {c : ℕ} → j < length places → c ≡ get_or places j 0 → r' ≡ with_node m r c free_node
+      → Freeing m places r₀ r' (suc j)
+  frees-more {c = c} l q e =
       record {
         part = rw e (part-with h.part c free_node);
-        low = l;
         words =
             e ∙ (λ t. nodes_words (set (now-nodes t) (q t) free_node))
-            ∙ ap (nodes_words) (each_turn free_node places j (nodes_in m r₀) (omega (arith, k.room, k.few)));
+            ∙ ap (nodes_words) (each_turn free_node places j (nodes_in m r₀) l);
       }
 
-  pub frees_all : count ≤ j → r ≡ freed_at (take count places) m r₀
-  frees_all l =
-      let e : j ≡ count = omega (arith, h.low) in
-      h.words ∙ ap (λ (n : ℕ). freed_at (take n places) m r₀) e
+  pub frees_all : length places ≤ j → r ≡ freed_at places m r₀
+  frees_all l = h.words ∙ ap (λ (cs : List ℕ). freed_at cs m r₀) (take_all j places l)

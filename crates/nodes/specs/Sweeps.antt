@@ -1,8 +1,7 @@
 -- Which nodes a sweep frees, and what it leaves. Assumes nothing.
-use Rattle.std.specs.Prelude.{ℕ, suc, ◌≤◌, ◌<◌, Bool, false, not, ◌&&◌, List, ◌≡◌, length, get_or, take, ltb, eqb}
-use Rattle.lists.specs.Tests.{count_from, All}
+use Rattle.std.specs.Prelude.{ℕ, suc, Bool, false, not, ◌&&◌, List, ◌≡◌, get_or, ltb, eqb}
+use Rattle.lists.specs.Tests.{count_from}
 use Rattle.lists.specs.Sweep.{sweep_from, set_each}
-use Rattle.model.specs.Params.{most_nodes}
 use Rattle.model.specs.State.{Node, free_node}
 use Rattle.model.specs.Retire.{retired_by, within}
 use Rattle.layout.specs.Nodes.{nodes_words}
@@ -19,12 +18,6 @@ due_between p a b limit marks c n = within a b c && due_unmarked p limit marks c
 -- Retired by p, in the limbo list of this epoch
 abbrev pub expired_in : ℕ → ℕ → ℕ → Node → Bool
 expired_in p epoch c n = retired_by p n && eqb n.limbo epoch
-
--- the first `count` of the places are those of nodes, of which there are m
-pub record Places (m : ℕ) (places : List ℕ) (count : ℕ) : Type 0 where
-  pub room : length places ≡ most_nodes
-  pub few : count ≤ most_nodes
-  pub below : All (λ c. c < m) (take count places)
 
 -- words r after the nodes at these places are freed
 abbrev pub freed_at : List ℕ → ℕ → List ℕ → List ℕ

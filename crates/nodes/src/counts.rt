@@ -1,6 +1,6 @@
 // Counts over the nodes' part of a domain's words: Reachable nodes, and the Retired nodes of a process; and whether a process has a
 // node under way.
-ghost use Rattle.std.specs.Prelude.{◌≡◌, not, cond, ◌+◌, ◌≤◌, ◌<◌, drop, eqb};
+ghost use Rattle.std.specs.Prelude.{◌≡◌, not, ◌≤◌, ◌<◌, drop, eqb};
 ghost use Rattle.lists.specs.Tests.{every, count};
 ghost use Rattle.model.specs.State.{Reachable};
 ghost use Rattle.model.specs.Retire.{retired_by};
@@ -11,23 +11,14 @@ ghost use Rattle.nodes.specs.Part.{node_in, Part};
 use layout::words::{node_word, states};
 use layout::{NodeId, ProcessId};
 
-// 1 for a test that is passed.
-pub fn one_if(b: bool) -> u32
-    ensures { (result ≡ cond b 1 0) × (result ≤ 1) }
-{
-    if b { 1 } else { 0 }
-}
-
 // How many nodes are Reachable.
 pub fn reachable_count(nodes: &[u32], m: u32) -> u32
     requires { Part m nodes.now }
     ensures { result ≡ count (λ n. eqb n.state Reachable) (nodes_in m nodes.now) }
 {
     let mut reachable: u32 = 0;
-    let mut i: u32 = 0;
-    while i < m {
-        reachable += one_if(crate::state_of(nodes, m, NodeId(i)) == states::REACHABLE);
-        i += 1;
+    for i in 0..m {
+        reachable += u32::from(crate::state_of(nodes, m, NodeId(i)) == states::REACHABLE);
     }
     reachable
 }
@@ -48,10 +39,8 @@ pub fn retired_count(nodes: &[u32], m: u32, p: ProcessId, from: u32) -> u32
     ensures { result ≡ count (retired_by p.0) (drop from (nodes_in m nodes.now)) }
 {
     let mut retired: u32 = 0;
-    let mut i: u32 = from;
-    while i < m {
-        retired += one_if(retired_by(nodes, m, NodeId(i), p));
-        i += 1;
+    for i in from..m {
+        retired += u32::from(retired_by(nodes, m, NodeId(i), p));
     }
     retired
 }
@@ -73,10 +62,8 @@ pub fn none_under_way(nodes: &[u32], m: u32, p: ProcessId) -> bool
     ensures { result ≡ every (λ n. not (under_way p.0 n)) (nodes_in m nodes.now) }
 {
     let mut ok = true;
-    let mut i: u32 = 0;
-    while i < m {
-        ok = ok & !under_way(nodes, m, NodeId(i), p);
-        i += 1;
+    for i in 0..m {
+        ok &= !under_way(nodes, m, NodeId(i), p);
     }
     ok
 }

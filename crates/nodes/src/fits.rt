@@ -40,8 +40,7 @@ pub fn node(faults: Faults, nodes: &[u32], m: u32, c: NodeId, limits: &[u32]) ->
 {
     let state = crate::state_of(nodes, m, c);
     let at = crate::offset(m, c);
-    limits::row(
-        faults,
+    faults.row(
         nodes,
         at + node_word::OWNER,
         limits,

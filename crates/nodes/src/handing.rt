@@ -25,11 +25,9 @@ pub fn hand_over(nodes: &mut [u32], m: u32, p: ProcessId, q: ProcessId, time: u3
     requires { Part m nodes.old }
     ensures { nodes.new ≡ nodes_words (map (handed p.0 q.0 time epoch) (nodes_in m nodes.old)) }
 {
-    let mut i: u32 = 0;
-    while i < m {
+    for i in 0..m {
         if crate::counts::retired_by(nodes, m, NodeId(i), p) {
             pass(nodes, m, NodeId(i), q, time, epoch);
         }
-        i += 1;
     }
 }

@@ -17,13 +17,6 @@ pub struct Known {
     pub reachable: u32,
 }
 
-// What a whole pass finds: whether all nodes fit, and the count, which is 0 where one does not.
-#[derive(Clone, Copy)]
-pub struct Found {
-    pub fits: bool,
-    pub reachable: u32,
-}
-
 // By state, what a node counts for: to look it up takes less than to compare the state (docs/BENCH.md, 'Request 5').
 fn weights() -> [u32; states::COUNT]
     ensures { result ≡ state_weights }
@@ -55,8 +48,9 @@ fn further(
     Known { faults, reachable }
 }
 
-// All m nodes. The limits are laid out by the caller, long before they are read. A state that is none ends the pass.
-pub fn go_over(faults: Faults, nodes: &[u32], m: u32, limits: &[u32], counting: bool) -> Found
+// All m nodes: the count, or none where one does not fit. The limits are laid out by the caller, long before they are read. A state that is
+// none ends the pass.
+pub fn go_over(faults: Faults, nodes: &[u32], m: u32, limits: &[u32], counting: bool) -> Option<u32>
     requires { Part m nodes.now × (length limits.now ≡ limit_count) }
     ensures { Finds (none faults) counting m nodes.now limits.now result }
 {
@@ -65,20 +59,15 @@ pub fn go_over(faults: Faults, nodes: &[u32], m: u32, limits: &[u32], counting: 
         faults,
         reachable: 0,
     };
-    let mut i: u32 = 0;
-    while i < m {
+    for i in 0..m {
         if crate::state_of(nodes, m, NodeId(i)) > states::RETIRED {
-            return Found {
-                fits: false,
-                reachable: 0,
-            };
+            return None;
         }
         known = further(known, nodes, m, NodeId(i), limits, &weights, counting);
-        i += 1;
     }
-    let fits = limits::is_clean(known.faults);
-    Found {
-        fits,
-        reachable: if fits { known.reachable } else { 0 },
+    if known.faults.is_clean() {
+        Some(known.reachable)
+    } else {
+        None
     }
 }

@@ -20,13 +20,11 @@ pub fn reach(nodes: &[u32], m: u32, p: ProcessId, from: u32, limit: u32) -> End
     ensures { Reached (retired_by p.0) limit from m (nodes_in m nodes.now) result }
 {
     let mut examined: u32 = 0;
-    let mut i: u32 = from;
-    while i < m {
+    for i in from..m {
         if examined == limit {
             return End { next: i, examined };
         }
-        examined += crate::counts::one_if(crate::counts::retired_by(nodes, m, NodeId(i), p));
-        i += 1;
+        examined += u32::from(crate::counts::retired_by(nodes, m, NodeId(i), p));
     }
-    End { next: i, examined }
+    End { next: m, examined }
 }

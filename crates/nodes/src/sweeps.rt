@@ -1,9 +1,10 @@
 // Sweeps over the nodes' part of a domain's words: Retired nodes freed, by age and marks or by limbo list.
-ghost use Rattle.std.specs.Prelude.{◌≡◌, cond, ◌+◌, ◌-◌, ◌≤◌, ◌<◌, set, take};
+ghost use Rattle.std.specs.Prelude.{◌≡◌, cond, ◌+◌, ◌≤◌, ◌<◌, set};
+ghost use Rattle.lists.specs.Tests.{All};
 ghost use Rattle.model.specs.Params.{most_nodes};
 ghost use Rattle.model.specs.State.{free_node};
 ghost use Rattle.nodes.specs.Part.{node_in, Part, with_node};
-ghost use Rattle.nodes.specs.Sweeps.{due_unmarked, due_between, expired_in, Places, freed_at, Swept};
+ghost use Rattle.nodes.specs.Sweeps.{due_unmarked, due_between, expired_in, freed_at, Swept};
 
 use layout::words::{most, node_word, states};
 use layout::{Node, NodeId, ProcessId};
@@ -41,7 +42,7 @@ fn note(places: &mut [u8; most::NODES as usize], count: u32, i: u32, passed: boo
     ensures { (places.new ≡ set places.old count i) × (result ≡ count + cond passed 1 0) }
 {
     places[layout::wide(count)] = i as u8;
-    count + crate::counts::one_if(passed)
+    count + u32::from(passed)
 }
 
 // Frees node c.
@@ -59,16 +60,13 @@ fn free(nodes: &mut [u32], m: u32, c: NodeId)
     crate::put(nodes, m, c, x);
 }
 
-// Frees the nodes at the `count` places that are noted.
-fn free_noted(nodes: &mut [u32], m: u32, places: &[u8; most::NODES as usize], count: u32)
-    requires { Part m nodes.old × Places m places.now count }
-    ensures { nodes.new ≡ freed_at (take count places.now) m nodes.old }
+// Frees the nodes that are noted.
+fn free_noted(nodes: &mut [u32], m: u32, noted: &[u8])
+    requires { Part m nodes.old × All (λ c. c < m) noted.now }
+    ensures { nodes.new ≡ freed_at noted.now m nodes.old }
 {
-    let mut j: u32 = 0;
-    while j < count {
-        let c = places[layout::wide(j)] as u32;
-        free(nodes, m, NodeId(c));
-        j += 1;
+    for &c in noted {
+        free(nodes, m, NodeId(u32::from(c)));
     }
 }
 
@@ -87,13 +85,11 @@ pub fn sweep_due(
 {
     let mut places = [0u8; most::NODES as usize];
     let mut count: u32 = 0;
-    let mut i: u32 = from;
-    while i < to {
+    for i in from..to {
         let is_due = due(nodes, m, NodeId(i), p, limit, marks);
         count = note(&mut places, count, i, is_due);
-        i += 1;
     }
-    free_noted(nodes, m, &places, count);
+    free_noted(nodes, m, &places[..layout::wide(count)]);
     count
 }
 
@@ -104,12 +100,10 @@ pub fn sweep_expired(nodes: &mut [u32], m: u32, p: ProcessId, epoch: u32) -> u32
 {
     let mut places = [0u8; most::NODES as usize];
     let mut count: u32 = 0;
-    let mut i: u32 = 0;
-    while i < m {
+    for i in 0..m {
         let is_expired = expired(nodes, m, NodeId(i), p, epoch);
         count = note(&mut places, count, i, is_expired);
-        i += 1;
     }
-    free_noted(nodes, m, &places, count);
+    free_noted(nodes, m, &places[..layout::wide(count)]);
     count
 }

@@ -26,17 +26,19 @@ use Rattle.wellformed.specs.ProcessLimits.{hazard_within, hazards_within, lead_w
 
 -- ---- what the looks at the words leave
 
--- a limit masked by the top bit d of e - stores: x is 0 or has every bit set
-pub cut-is : (limit e stores d x : ℕ) → limit ≤ any_word → e ≤ any_word → stores ≤ any_word → d ≤ any_word → x ≤ any_word
-    → (d + stores) % 4294967296 ≡ e → (x + d / 2147483648) % 4294967296 ≡ 0 → bit_and limit x ≡ cut_at limit e stores
+-- the mask by the top bit of d is 0 or has every bit set
+abbrev mask : ℕ → ℕ
+mask d = (0 + (4294967296 - d / 2147483648)) % 4294967296
+
+pub cut-is : (limit e stores : ℕ) → limit ≤ any_word → bit_and limit (mask ((e + (4294967296 - stores)) % 4294967296)) ≡ cut_at limit e stores
 unfolding cut_at
-cut-is limit e stores d x hl he hs hd hx ed ex =
-    let q : (e + (4294967296 - stores)) % 4294967296 ≡ d = omega arith in rw q (go (ltb d 2147483648) refl)
+cut-is limit e stores h =
+    go ((e + (4294967296 - stores)) % 4294967296) (omega arith) (ltb ((e + (4294967296 - stores)) % 4294967296) 2147483648) refl
   where
-    go : (b : Bool) → ltb d 2147483648 ≡ b → bit_and limit x ≡ cond b 0 limit
-    go true h = let z : x ≡ 0 = omega (arith, ltb-true) in rw z (and_zero_r limit)
-    go false h =
-        let z : x ≡ 4294967295 = omega (arith, ltb-false) in
+    go : (d : ℕ) → d < 4294967296 → (b : Bool) → ltb d 2147483648 ≡ b → bit_and limit (mask d) ≡ cond b 0 limit
+    go d l true e = let z : mask d ≡ 0 = omega (arith, ltb-true) in rw z (and_zero_r limit)
+    go d l false e =
+        let z : mask d ≡ 4294967295 = omega (arith, ltb-false) in
         let small : limit % 4294967296 ≡ limit = omega arith in rw z (and_mask limit 32 ∙ small)
 
 module _ (l : Limits) (stores : ℕ) (ws : List ℕ) (at : ℕ) where

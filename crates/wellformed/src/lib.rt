@@ -62,11 +62,7 @@ fn checked(words: &[u32], counting: bool) -> Option<u32>
     }
     let limits = nodes::fits::node_limits(n - 1, words[head_word::CLOCK]);
     let faults = processes::processes_faults(words);
-    let found = nodes::pass::go_over(faults, &words[a..], m, &limits, counting);
-    if !found.fits {
-        return None;
-    }
-    Some(found.reachable)
+    nodes::pass::go_over(faults, &words[a..], m, &limits, counting)
 }
 
 // Whether the words are those of a well-formed domain.

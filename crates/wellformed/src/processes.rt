@@ -38,7 +38,7 @@ const HALF_PLACES: u32 = most::STORES / 2;
 fn cut(limit: u32, e: u32, stores: u32) -> u32
     ensures { result ≡ cut_at limit e stores }
 {
-    limit & std::num::wrapping_sub_u32(0, std::num::wrapping_sub_u32(e, stores) >> 31)
+    limit & 0u32.wrapping_sub(e.wrapping_sub(stores) >> 31)
 }
 
 // Those of place e.
@@ -57,15 +57,14 @@ fn half(faults: Faults, words: &[u32], at: usize, e: u32, stores: u32, limits: L
     requires { (at + half_width ≤ length words.now) × (e ≤ half_size) }
     ensures { none result ≡ (none faults && half_within limits stores words.now at e) }
 {
-    let second = at + 4;
-    let third = at + 8;
     let a = cuts_of(limits, e, stores);
     let b = cuts_of(limits, e + 1, stores);
     let c = cuts_of(limits, e + 2, stores);
     let d = cuts_of(limits, e + 3, stores);
-    let one = limits::piece(faults, words, at, a.hazard, a.node, a.time, b.hazard);
-    let two = limits::piece(one, words, second, b.node, b.time, c.hazard, c.node);
-    limits::piece(two, words, third, c.time, d.hazard, d.node, d.time)
+    faults
+        .piece(words, at, a.hazard, a.node, a.time, b.hazard)
+        .piece(words, at + 4, b.node, b.time, c.hazard, c.node)
+        .piece(words, at + 8, c.time, d.hazard, d.node, d.time)
 }
 
 // All places of a buffer.
@@ -85,7 +84,7 @@ fn hazard(faults: Faults, words: &[u32], before: usize, m: u32) -> Faults
 {
     let at = before + 1;
     let unbacked = words[at + hazard_word::VALIDATED] > words[at + hazard_word::ASSIGNED];
-    limits::piece(limits::noted(faults, unbacked), words, before, 1, m, m, 1)
+    faults.noted(unbacked).piece(words, before, 1, m, m, 1)
 }
 
 // The k hazards after the word `before`.
@@ -93,10 +92,8 @@ fn hazards(mut faults: Faults, words: &[u32], before: usize, k: usize, m: u32) -
     requires { (k ≤ most_hazards) × (before + 1 + hazard_width * k ≤ length words.now) }
     ensures { none result ≡ (none faults && hazards_within m words.now before k) }
 {
-    let mut h = 0;
-    while h < k {
+    for h in 0..k {
         faults = hazard(faults, words, before + hazard_word::WIDTH * h, m);
-        h += 1;
     }
     faults
 }
@@ -106,7 +103,7 @@ fn lead(faults: Faults, words: &[u32], at: usize, calls: u32) -> Faults
     requires { at + shape.lead_width ≤ length words.now }
     ensures { none result ≡ (none faults && lead_within calls words.now at) }
 {
-    limits::piece(faults, words, at, most::EPOCH, calls, 1, most::STORES)
+    faults.piece(words, at, most::EPOCH, calls, 1, most::STORES)
 }
 
 // The process whose words start at `at`.
@@ -131,21 +128,17 @@ pub fn processes_faults(words: &[u32]) -> Faults
     requires { Ready words.now }
     ensures { none result ≡ processes_fit words.now }
 {
-    let count = layout::wide(words[head_word::PROCESSES]);
-    let k = layout::wide(words[head_word::HAZARDS]);
+    let hazards = words[head_word::HAZARDS];
     let limits = Limits {
         calls: words[head_word::QUIESCENCE] - 1,
-        hazard: words[head_word::HAZARDS] - 1,
+        hazard: hazards - 1,
         nodes: words[head_word::NODES],
         clock: words[head_word::CLOCK],
     };
-    let mut faults = limits::no_faults();
-    let mut at = head_word::WIDTH;
-    let mut p = 0;
-    while p < count {
-        faults = process(faults, words, at, k, limits);
-        at += layout::process_width(k);
-        p += 1;
+    let mut faults = Faults::NONE;
+    for p in 0..words[head_word::PROCESSES] {
+        let at = layout::process_start(hazards, p);
+        faults = process(faults, words, at, layout::wide(hazards), limits);
     }
     faults
 }

@@ -1,18 +1,7 @@
 -- `nodes::put` meets its contract: the state is set by `set_state`, and the four words after it are the rest of the node. Assumes nothing.
 use native.Mathlib.Numerals.{towards_suc}
-use native.Mathlib.Omega.{arith}
-use lib.ListN.{length-set}
 use Rattle.nodes.proofs.Words.{rest-set}
 use Rattle.nodes.proofs.put.Goals as goal
-
-pub bounds-nodes-at-2 : goal.bounds-nodes-at-2
-bounds-nodes-at-2 c = simp length-set (omega arith)
-
-pub bounds-nodes-at-3 : goal.bounds-nodes-at-3
-bounds-nodes-at-3 c = simp length-set (omega arith)
-
-pub bounds-nodes-at-4 : goal.bounds-nodes-at-4
-bounds-nodes-at-4 c = simp length-set (omega arith)
 
 pub returns : goal.returns
 returns c =

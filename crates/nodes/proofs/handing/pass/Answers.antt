@@ -2,7 +2,7 @@
 use Prim.Native.Nat.{ℕ, ◌+◌, ◌*◌, ◌<◌}
 use mathlib.Core.List.{List, [], ◌∷◌}
 use mathlib.Core.Path.{◌≡◌, refl, ap}
-use lib.ListN.{set, length-set}
+use lib.ListN.{set}
 use Rattle.model.specs.Params.{node_width}
 use Rattle.model.specs.State.{Node, Retired}
 use Rattle.model.specs.Retire.{retiring}
@@ -22,12 +22,6 @@ passed {m} {c} {a} {r} h l e s q time epoch =
     let timed = word_more h l e (owned_by q n) owned 3 time timely (omega arith) refl in
     word_more h l e timely timed 4 epoch (retiring time epoch (owned_by q n)) (omega arith)
     (ap (λ (v : ℕ). v ∷ q ∷ n.guest ∷ time ∷ epoch ∷ []) s)
-
-pub bounds-nodes-at-2 : goal.bounds-nodes-at-2
-bounds-nodes-at-2 c = simp length-set (omega arith)
-
-pub bounds-nodes-at-3 : goal.bounds-nodes-at-3
-bounds-nodes-at-3 c = simp length-set (omega arith)
 
 pub returns : goal.returns
 returns c =

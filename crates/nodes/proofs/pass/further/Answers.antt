@@ -2,11 +2,10 @@
 use Prim.Native.Nat.{ℕ, ◌≤◌}
 use native.Mathlib.Omega.{arith}
 use Rattle.model.specs.State.{Retired}
-use Rattle.nodes.proofs.GoingOver.{light, weight-counts, none-counts, goes_on_lem}
+use Rattle.nodes.proofs.GoingOver.{weight-counts, none-counts, goes_on_lem}
 use Rattle.nodes.specs.Part.{node_in}
-use mathlib.Core.Path.{◌≡◌, refl, sym, ap}
+use mathlib.Core.Path.{◌≡◌, refl, sym}
 use native.Mathlib.Nat.{add-zero}
-use lib.ListN.{length}
 use borrow.Author.Rules.{rules}
 use Rattle.nodes.proofs.pass.further.Goals as goal
 
@@ -14,25 +13,17 @@ use Rattle.nodes.proofs.pass.further.Goals as goal
 few : {w s n : ℕ} → w ≡ s → s ≡ n → n ≤ Retired → w ≤ Retired
 few e f h = omega arith
 
-pub bounds-weights-wide : goal.bounds-weights-wide
-bounds-weights-wide c =
-    search (rules, few c.wide.ensures.0 c.state_of.ensures c.requires.part.2, ap length c.requires.limits_len.1)
-
-pub overflow_add-reachable : goal.overflow_add-reachable
-overflow_add-reachable c =
-    search (rules, light c.wide.result c.requires.limits_len.1 (few c.wide.ensures.0 c.state_of.ensures c.requires.part.2))
-
 pub returns-then-counting : goal.returns-then-counting
 returns-then-counting c x g =
     let a = c.args in
     let n = node_in a.m a.nodes.now a.c.0 in
     let weighed = weight-counts n c.if-counting.true c.requires.limits_len.1 c.wide.ensures.0 c.state_of.ensures
     c.requires.part.2 in
-    goes_on_lem c.requires.part.0 c.requires.part.1 c.requires.part.2 (λ j. omega (arith, c.shared_slice_known-1.given j)) c.node-faults.ensures
+    goes_on_lem c.requires.part.0 c.requires.part.1 c.requires.part.2 (λ j. search rules) c.node-faults.ensures
     weighed refl g
 
 pub returns-else-counting : goal.returns-else-counting
 returns-else-counting c x g =
     let a = c.args in
-    goes_on_lem c.requires.part.0 c.requires.part.1 c.requires.part.2 (λ j. omega (arith, c.shared_slice_known-1.given j)) c.node-faults.ensures
+    goes_on_lem c.requires.part.0 c.requires.part.1 c.requires.part.2 (λ j. search rules) c.node-faults.ensures
     (none-counts (node_in a.m a.nodes.now a.c.0) c.if-counting.false) (sym (add-zero a.known.reachable)) g

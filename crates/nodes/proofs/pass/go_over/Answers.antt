@@ -1,7 +1,6 @@
--- `pass::go_over` meets its contract. The invariant is what `further` promises, of the first i nodes. The measure: the nodes that are
--- left. Assumes nothing.
-use Rattle.nodes.proofs.GoingOver.{starts, few, stops, ends}
-use mathlib.Core.Path.{refl}
+-- `pass::go_over` meets its contract. The invariant is what `further` promises, of the first i nodes. Assumes nothing.
+use Rattle.nodes.proofs.GoingOver.{starts, few, stops, ends-well}
+use mathlib.Core.Path.{refl, sym, ◌∙◌}
 use native.Mathlib.Omega.{arith}
 use Rattle.nodes.proofs.pass.go_over.Goals as goal
 
@@ -22,10 +21,6 @@ further-known-requires c =
 pub loop-i-preserved : goal.loop-i-preserved
 loop-i-preserved c = (omega arith, c.further-known.ensures _ c.loop-i.invariant.1)
 
-pub returns-then-fits : goal.returns-then-fits
-returns-then-fits c =
-    ends {i = c.loop-i.i} (omega arith) c.loop-i.invariant.1 c.is_clean-fits.ensures (rw c.if-fits.true)
-
-pub returns-else-fits : goal.returns-else-fits
-returns-else-fits c =
-    ends {i = c.loop-i.i} (omega arith) c.loop-i.invariant.1 c.is_clean-fits.ensures (rw c.if-fits.false)
+pub returns-then-is_clean : goal.returns-then-is_clean
+returns-then-is_clean c =
+    ends-well {i = c.loop-i.i} (omega arith) c.loop-i.invariant.1 (sym c.if-is_clean.true ∙ c.is_clean.ensures)

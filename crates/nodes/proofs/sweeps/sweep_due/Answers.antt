@@ -1,12 +1,11 @@
--- `sweeps::sweep_due` meets its contract. The loop has noted those of the nodes before i that are to be freed; the measure is the number
--- of those left. Assumes nothing.
+-- `sweeps::sweep_due` meets its contract. The loop has noted those of the nodes before i that are to be freed. Assumes nothing.
 use mathlib.Core.Path.{refl}
 use native.Mathlib.Numerals.{add-one}
 use native.Mathlib.Omega.{arith}
 use borrow.Author.Rules.{rules}
 use Rattle.nodes.specs.Part.{node_in}
 use Rattle.nodes.specs.Sweeps.{due_unmarked}
-use Rattle.nodes.proofs.Sweeping.{notes-more, noted, notes-start, notes-rest, between-yes}
+use Rattle.nodes.proofs.Sweeping.{notes-more, notes-start, notes-rest, between-yes}
 use Rattle.nodes.proofs.sweeps.sweep_due.Goals as goal
 
 pub loop-i-init : goal.loop-i-init
@@ -27,11 +26,8 @@ loop-i-preserved c =
           (between-yes test a.from a.to c.loop-i.i (node_in a.m a.nodes.now c.loop-i.i) inv.0 below c.due-is_due.ensures)),
     )
 
-pub free_noted-requires : goal.free_noted-requires
-free_noted-requires c = let inv = c.loop-i.invariant in (inv.1.part, noted inv.1)
-
 pub returns : goal.returns
 returns c =
     let a = c.args in
     notes-rest (due_unmarked a.p.0 a.limit a.marks.now) a.from a.to c.loop-i.invariant.1
-    c.loop-i-test.false c.free_noted.ensures
+    c.loop-i-test.false (rw c.wide.ensures.0 at c.free_noted.ensures)

@@ -5,6 +5,4 @@ use Rattle.wellformed.proofs.processes.cut.Goals as goal
 
 pub returns : goal.returns
 returns c =
-    let a = c.args in
-    cut-is a.limit a.e a.stores _ _ (omega arith) (omega arith) (omega arith) (omega arith) (omega arith)
-    c.wrapping_sub_u32.ensures.value c.wrapping_sub_u32-2.ensures.value
+    let a = c.args in cut-is a.limit a.e a.stores (omega arith)

@@ -7,5 +7,5 @@ pub returns : goal.returns
 returns c =
     let a = c.args in
     half-none a.limits a.stores a.words.now a.at a.e _ _ _ _ (none a.faults) _ _ _ c.cuts_of-a.ensures
-    c.cuts_of-b.ensures c.cuts_of-c.ensures c.cuts_of-d.ensures c.piece-one.ensures
-    c.piece-two.ensures c.piece.ensures
+    c.cuts_of-b.ensures c.cuts_of-c.ensures c.cuts_of-d.ensures c.piece.ensures
+    c.piece-2.ensures c.piece-3.ensures

@@ -1,5 +1,4 @@
--- `processes::hazards` meets its contract. The invariant: what the first h hazards leave. The measure: the hazards that are left. Assumes
--- nothing.
+-- `processes::hazards` meets its contract. The invariant: what the first h hazards leave. Assumes nothing.
 use Rattle.wellformed.proofs.ProcessWithin.{hazards-start, hazards-turn}
 use Rattle.limits.specs.Limits.{none}
 use Rattle.std.proofs.Common.{◌≡◌, arith}
