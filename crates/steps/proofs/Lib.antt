@@ -1,5 +1,4 @@
-pub mod OneNumber
+pub mod Asked
 pub mod Portioning
 pub mod AsRead
-pub mod Groups
 pub mod Going

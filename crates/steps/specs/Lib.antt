@@ -1,3 +1,2 @@
 pub mod Stepped
-pub mod Groups
 pub mod Portioned

@@ -1,16 +1,23 @@
 -- What a portion of a scan on sound words answers and leaves. Assumes nothing.
-use Rattle.std.specs.Prelude.{ℕ, List, ◌≡◌}
+use Rattle.std.specs.Prelude.{ℕ, List, Result, Ok, Err, ◌≡◌}
+use Rattle.refusals.specs.declared.Refusal.{Refusal}
+use Rattle.refusals.specs.Numbers.{refusal_in}
 use Rattle.model.specs.Machine.{PortionAnswer}
 use Rattle.layout.specs.Encode.{encode}
 use Rattle.layout.specs.Sound.{Sound}
-use Rattle.steps.specs.declared.portion.Portioned.{Portioned}
+use Rattle.retire.specs.declared.portion.Portion.{Portion}
 
--- the answer r and the words ws afterwards are those of x, and the words are sound
-pub record Portions (x : PortionAnswer) (r : Portioned) (ws : List ℕ) : Type 0 where
-  pub refusal : r.refusal ≡ x.refusal
-  pub freed : r.freed ≡ x.freed
-  pub examined : r.examined ≡ x.examined
-  pub next : r.next ≡ x.next
-  pub left : r.left ≡ x.left
+-- the numbers of an answer: each 0 where it is refused
+abbrev pub portion_in : Result Portion Refusal → Portion
+portion_in (Ok x) = x
+portion_in (Err r) = record { freed = 0; examined = 0; next = 0; left = 0 }
+
+-- answer r and the words ws afterwards are those of x, and the words are sound
+pub record Portions (x : PortionAnswer) (r : Result Portion Refusal) (ws : List ℕ) : Type 0 where
+  pub refusal : refusal_in r ≡ x.refusal
+  pub freed : (portion_in r).freed ≡ x.freed
+  pub examined : (portion_in r).examined ≡ x.examined
+  pub next : (portion_in r).next ≡ x.next
+  pub left : (portion_in r).left ≡ x.left
   pub words : ws ≡ encode x.after
   pub sound : Sound ws

@@ -1,11 +1,15 @@
--- `steps::take_step` meets its contract: each group of kinds by its own step, and past the last there is no kind. Assumes nothing.
-use native.Mathlib.Omega.{arith}
-use Rattle.steps.proofs.OneNumber.{no-kind-here}
-use Rattle.steps.proofs.Groups.{none_below, none-beyond}
+-- `steps::take_step` meets its contract: past the kinds that there are, the step of none is refused. Assumes nothing.
+use mathlib.Core.Path.{sym, ap, ◌∙◌}
+use Rattle.std.proofs.lemmas.Result.{err_from_is_err_and}
+use Rattle.model.specs.Kinds.{Unknown}
+use Rattle.kinds.specs.Table.{kind_refusal}
+use Rattle.layout.specs.Values.{step_value}
+use Rattle.steps.proofs.Asked.{turned-away}
 use Rattle.steps.proofs.take_step.Goals as goal
 
-pub returns-in_default : goal.returns-in_default
-returns-in_default c = no-kind-here c.requires _ _ _ _ _ (none_below {kind = c.args.kind} (omega arith))
-
-pub returns-in_default-2 : goal.returns-in_default-2
-returns-in_default-2 c = no-kind-here c.requires _ _ _ _ _ (none-beyond {kind = c.args.kind} (omega arith) (omega arith))
+pub returns-in_err-try_from : goal.returns-in_err-try_from
+returns-in_err-try_from c =
+    let none = c.in_err-try_from.ensures in
+    let is = sym none.0 in
+    turned-away Unknown c.args.words.now (step_value c.args.step) c.requires is (none.1 ∙ ap kind_refusal is)
+    (err_from_is_err_and _ c.from_residual.ensures.1)

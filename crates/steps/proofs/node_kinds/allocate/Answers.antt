@@ -1,22 +1,24 @@
--- `steps::node_kinds::allocate` meets its contract: by what its questions have answered, with the guest as the table says that it is
--- read. Assumes nothing.
-use Rattle.questions.proofs.Accepted.{node_in_lem}
-use Rattle.domain.specs.Effects.{given}
-use Rattle.model.specs.Machine.{allocating}
-use Rattle.model.specs.Kinds.{Allocate}
+-- `steps::node_kinds::allocate` meets its contract: asked and done. Assumes nothing.
 use mathlib.Core.Path.{refl}
-use Rattle.steps.proofs.AsRead.{of-read}
-use Rattle.model.specs.State.{Node}
-use Prim.Native.Nat.{ℕ}
+use Rattle.std.proofs.lemmas.Result.{err_from_is_err_and}
+use Rattle.model.specs.Kinds.{Allocate}
+use Rattle.layout.specs.Values.{step_value}
+use Rattle.steps.proofs.Asked.{turned-away, let-in, node-in}
 use Rattle.steps.proofs.node_kinds.allocate.Goals as goal
+
+pub returns-in_err-ask : goal.returns-in_err-ask
+returns-in_err-ask c =
+    turned-away Allocate c.args.words.now (step_value c.args.step) c.requires.0 c.requires.1 c.in_err-ask.ensures
+    (err_from_is_err_and _ c.from_residual.ensures.1)
 
 pub set_node-requires : goal.set_node-requires
 set_node-requires c =
-    let a = c.args in
-    (c.requires.0, node_in_lem Allocate a.words.now a.p.0 0 a.c.0 a.guest c.requires refl)
+    let ws = c.args.words.now in
+    let s = step_value c.args.step in
+    let e = c.in_ok-ask.ensures in
+    (c.requires.0, node-in Allocate ws s e refl)
 
 pub returns : goal.returns
 returns c =
-    let a = c.args in
-    let node-for : ℕ → Node = λ guest. allocating (given 1 a.p.0 0 a.c.0 guest) in
-    (of-read node-for a.words.now a.c.0 c.guest_read.ensures c.set_node.ensures, refl)
+    let-in Allocate c.args.words.now (step_value c.args.step) c.in_ok-ask.ensures c.requires.0 c.requires.1
+    (c.set_node.ensures, refl)

@@ -1,10 +1,24 @@
 -- `steps::node_kinds::reinsert` meets its contract: the node is made Reachable. Assumes nothing.
 use mathlib.Core.Path.{refl}
+use Rattle.std.proofs.lemmas.Result.{err_from_is_err_and}
 use Rattle.model.specs.Kinds.{Reinsert}
-use Rattle.questions.proofs.Accepted.{node_in_lem}
+use Rattle.layout.specs.Values.{step_value}
+use Rattle.steps.proofs.Asked.{turned-away, let-in, node-in}
 use Rattle.steps.proofs.node_kinds.reinsert.Goals as goal
+
+pub returns-in_err-ask : goal.returns-in_err-ask
+returns-in_err-ask c =
+    turned-away Reinsert c.args.words.now (step_value c.args.step) c.requires.0 c.requires.1 c.in_err-ask.ensures
+    (err_from_is_err_and _ c.from_residual.ensures.1)
 
 pub make_reachable-requires : goal.make_reachable-requires
 make_reachable-requires c =
-    let a = c.args in
-    (c.requires.0, node_in_lem Reinsert a.words.now a.p.0 0 a.c.0 0 c.requires refl)
+    let ws = c.args.words.now in
+    let s = step_value c.args.step in
+    let e = c.in_ok-ask.ensures in
+    (c.requires.0, node-in Reinsert ws s e refl)
+
+pub returns : goal.returns
+returns c =
+    let-in Reinsert c.args.words.now (step_value c.args.step) c.in_ok-ask.ensures c.requires.0 c.requires.1
+    (c.make_reachable.ensures, refl)

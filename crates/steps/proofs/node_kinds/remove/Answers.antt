@@ -1,24 +1,33 @@
 -- `steps::node_kinds::remove` meets its contract: by the node as it was. Assumes nothing.
 use mathlib.Core.Path.{refl}
-use Rattle.model.specs.Kinds.{Remove}
 use Rattle.model.specs.Machine.{removing}
-use Rattle.questions.proofs.Accepted.{node_in_lem}
 use Rattle.steps.proofs.AsRead.{of-read}
+use Rattle.std.proofs.lemmas.Result.{err_from_is_err_and}
+use Rattle.model.specs.Kinds.{Remove}
+use Rattle.layout.specs.Values.{step_value}
+use Rattle.steps.proofs.Asked.{turned-away, let-in, node-in}
 use Rattle.steps.proofs.node_kinds.remove.Goals as goal
+
+pub returns-in_err-ask : goal.returns-in_err-ask
+returns-in_err-ask c =
+    turned-away Remove c.args.words.now (step_value c.args.step) c.requires.0 c.requires.1 c.in_err-ask.ensures
+    (err_from_is_err_and _ c.from_residual.ensures.1)
 
 pub node-x-requires : goal.node-x-requires
 node-x-requires c =
-    let a = c.args in
-    (c.requires.0, node_in_lem Remove a.words.now a.p.0 0 a.c.0 0 c.requires refl)
+    let ws = c.args.words.now in
+    let s = step_value c.args.step in
+    let e = c.in_ok-ask.ensures in
+    (c.requires.0, node-in Remove ws s e refl)
 
 pub set_node-requires : goal.set_node-requires
 set_node-requires c =
-    let a = c.args in
-    (c.requires.0, node_in_lem Remove a.words.now a.p.0 0 a.c.0 0 c.requires refl)
+    let ws = c.args.words.now in
+    let s = step_value c.args.step in
+    let e = c.in_ok-ask.ensures in
+    (c.requires.0, node-in Remove ws s e refl)
 
 pub returns : goal.returns
 returns c =
-    let ws = c.args.words.now in
-    let p = c.args.p.0 in
-    let n = c.args.c.0 in
-    (of-read (removing p) ws n c.node-x.ensures c.set_node.ensures, refl)
+    let-in Remove c.args.words.now (step_value c.args.step) c.in_ok-ask.ensures c.requires.0 c.requires.1
+    (of-read (removing c.args.step.process.0) c.args.words.now c.args.step.node.0 c.node-x.ensures c.set_node.ensures, refl)

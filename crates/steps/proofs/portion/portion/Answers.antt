@@ -1,24 +1,25 @@
 -- `steps::portion::portion` meets its contract: refused, or accepted and done. Assumes nothing.
-use mathlib.Core.Path.{refl, sym, ◌∙◌}
+use mathlib.Core.Path.{refl}
+use Rattle.std.proofs.lemmas.Result.{err_from_is_err_and}
 use Rattle.model.specs.Kinds.{Portion}
-use Rattle.questions.specs.Acted.{Ready}
-use Rattle.questions.proofs.Accepted.{process_in_lem, node_in_lem}
-use Rattle.steps.proofs.Portioning.{turned-away, let-in}
+use Rattle.model.specs.Machine.{portion_step}
+use Rattle.steps.proofs.Asked.{process-in, node-in}
+use Rattle.steps.proofs.Portioning.{portion-refused, portion-done}
 use Rattle.steps.proofs.portion.portion.Goals as goal
 
-pub returns-then-no-ne0 : goal.returns-then-no-ne0
-returns-then-no-ne0 c =
+pub returns-in_err-ask : goal.returns-in_err-ask
+returns-in_err-ask c =
     let a = c.args in
-    turned-away c.requires a.p.0 a.c.0 a.limit c.refusal-no.ensures c.if-no-ne0.true
+    portion-refused c.requires a.p.0 a.c.0 a.limit c.in_err-ask.ensures (err_from_is_err_and _ c.from_residual.ensures.1)
 
-pub scan-x-requires : goal.scan-x-requires
-scan-x-requires c =
+pub scan-requires : goal.scan-requires
+scan-requires c =
     let a = c.args in
-    let yes' : Ready Portion a.words.now a.p.0 0 a.c.0 a.limit = (c.requires, sym c.refusal-no.ensures ∙ c.if-no-ne0.false) in
-    (yes'.0, process_in_lem Portion a.words.now a.p.0 0 a.c.0 a.limit yes' refl, node_in_lem Portion a.words.now a.p.0 0 a.c.0 a.limit yes' refl)
+    let s = portion_step a.p.0 a.c.0 a.limit in
+    let e = c.in_ok-ask.ensures in
+    (c.requires, process-in Portion a.words.now s e refl, node-in Portion a.words.now s e refl)
 
 pub returns : goal.returns
 returns c =
     let a = c.args in
-    let-in c.requires a.p.0 a.c.0 a.limit
-    c.refusal-no.ensures c.if-no-ne0.false c.scan-x.ensures
+    portion-done c.requires a.p.0 a.c.0 a.limit c.in_ok-ask.ensures c.scan.ensures

@@ -1,44 +1,40 @@
 -- `steps::process_kinds::protect` meets its contract: by what its questions have answered. Assumes nothing.
-use Prim.Native.Nat.{ℕ, suc, ◌+◌}
-use mathlib.Core.List.{List}
-use mathlib.Core.Path.{◌≡◌, refl, ◌∙◌, ap}
-use native.Mathlib.Omega.{arith}
+use mathlib.Core.Path.{refl, ◌∙◌, ap}
 use native.Mathlib.Numerals.{add-one}
-use Rattle.model.specs.State.{Domain, process_of, set_process}
-use Rattle.model.specs.Kinds.{Protect}
-use Rattle.model.specs.Hazards.{assigning}
+use Rattle.model.specs.Hazards.{assign}
 use Rattle.layout.specs.Encode.{encode, decode}
-use Rattle.questions.proofs.Accepted.{facts, process_in_lem, hazard_in_lem, node_in_lem}
+use native.Mathlib.Omega.{arith}
+use Rattle.std.proofs.lemmas.Result.{err_from_is_err_and}
+use Rattle.model.specs.Kinds.{Protect}
+use Rattle.layout.specs.Values.{step_value}
+use Rattle.steps.proofs.Asked.{turned-away, let-in, facts, process-in, hazard-in, node-in}
 use Rattle.steps.proofs.process_kinds.protect.Goals as goal
 
--- the code's sum is the next number
-next-stored : (d : Domain) (p h c : ℕ) {ws : List ℕ} → ws ≡ encode (set_process d p (assigning (process_of d p) h (c + 1) d.clock))
-    → ws ≡ encode (set_process d p (assigning (process_of d p) h (suc c) d.clock))
-next-stored d p h c e = e ∙ ap (λ v. encode (set_process d p (assigning (process_of d p) h v d.clock))) (add-one c)
+pub returns-in_err-ask : goal.returns-in_err-ask
+returns-in_err-ask c =
+    turned-away Protect c.args.words.now (step_value c.args.step) c.requires.0 c.requires.1 c.in_err-ask.ensures
+    (err_from_is_err_and _ c.from_residual.ensures.1)
 
-pub overflow_add-c : goal.overflow_add-c
-overflow_add-c c =
+pub overflow_add-step : goal.overflow_add-step
+overflow_add-step c =
     let ws = c.args.words.now in
-    let p = c.args.p.0 in
-    let h = c.args.h.0 in
-    let n = c.args.c.0 in
-    omega (arith, node_in_lem Protect ws p h n 0 c.requires refl, c.requires.0.sizes.nodes)
+    let s = step_value c.args.step in
+    let e = c.in_ok-ask.ensures in
+    omega (arith, node-in Protect ws s e refl, c.requires.0.sizes.nodes)
 
 pub assign-requires : goal.assign-requires
 assign-requires c =
     let ws = c.args.words.now in
-    let p = c.args.p.0 in
-    let h = c.args.h.0 in
-    let n = c.args.c.0 in
+    let s = step_value c.args.step in
+    let e = c.in_ok-ask.ensures in
     record {
-      sound = (c.requires.0, process_in_lem Protect ws p h n 0 c.requires refl, hazard_in_lem Protect ws p h n 0 c.requires refl);
-      p_len_bound = (facts Protect ws p h n 0 c.requires).room refl;
+      sound = (c.requires.0, process-in Protect ws s e refl, hazard-in Protect ws s e refl);
+      p_len_bound = (facts Protect ws s e).room refl;
     }
 
 pub returns : goal.returns
 returns c =
-    let ws = c.args.words.now in
-    let p = c.args.p.0 in
-    let h = c.args.h.0 in
-    let n = c.args.c.0 in
-    (next-stored (decode ws) p h n c.assign.ensures, refl)
+    let d = decode c.args.words.now in
+    let s = step_value c.args.step in
+    let-in Protect c.args.words.now (step_value c.args.step) c.in_ok-ask.ensures c.requires.0 c.requires.1
+    (c.assign.ensures ∙ ap (λ v. encode (assign d s v)) (add-one s.node), refl)
