@@ -106,7 +106,6 @@ pub struct Row {
 }
 
 // A row of what is read.
-#[inline(always)]
 fn reading(process: Meaning, hazard: Meaning, node: Meaning, guest: Meaning) -> Row
     ensures { result ≡ reading process hazard node guest }
 {
@@ -122,7 +121,6 @@ fn reading(process: Meaning, hazard: Meaning, node: Meaning, guest: Meaning) -> 
 
 impl Row {
     // Its node in this state.
-    #[inline(always)]
     fn needing(self, state: u32) -> Row
         ensures { result ≡ needing state self }
     {
@@ -133,7 +131,6 @@ impl Row {
     }
 
     // Its node in this state, and the process's own.
-    #[inline(always)]
     fn owning(self, state: u32) -> Row
         ensures { result ≡ owning state self }
     {
@@ -147,7 +144,6 @@ impl Row {
 impl Kind {
     // As the kind is a variant that is known the table folds away: where it is not, it is laid out anew at each use, which takes longer than a
     // step.
-    #[inline(always)]
     pub fn row(self) -> Row
         ensures { result ≡ row_code (kind_value self) }
     {

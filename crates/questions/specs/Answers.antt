@@ -16,14 +16,6 @@ answer_to n (q ∷ qs) = cond (eqb q.number n) q.yes' (answer_to n qs)
 abbrev pub asked : Kind → List ℕ → ℕ → ℕ → ℕ → ℕ → List Question
 asked k ws p h c guest = questions k (decode ws) (given (number_of k) p h c guest)
 
--- how many come first: 4, 5 and 20 to 22, which ask who takes the step
-abbrev pub asked_first : ℕ
-asked_first = 5
-
--- and with those that the table decides: 6, 7, 23, 8 and 9
-abbrev pub asked_of_all : ℕ
-asked_of_all = 10
-
 -- hazard h of process p, the node assigned to that, and node c; past the last, zeros
 abbrev pub hazard_in : List ℕ → ℕ → ℕ → Hazard
 hazard_in ws p h = hazard_of (process_in ws p) h

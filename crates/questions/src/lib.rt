@@ -1,19 +1,18 @@
 // The questions before a step, numbers 4 to 17 and 20 to 23 in the papers' order: a step is refused by the first with the answer no.
-// A question that a kind is not asked has the answer yes and reads nothing, so that with the kind as a literal only its own are left. For that
-// each is folded into its list, and the lists into each kind's arm of the dispatch.
+// A question that a kind is not asked has the answer yes and reads nothing, so that with the kind as a literal only its own are left.
 #![tactic(auto)]
 
 pub mod read;
 
-ghost use Rattle.std.specs.Prelude.{[], ◌≡◌, MatchResult, true, false, drop};
+ghost use Rattle.std.specs.Prelude.{[], ◌≡◌, MatchResult, true, false};
 ghost use Rattle.model.specs.Kinds.{kind_of};
-ghost use Rattle.model.specs.Questions.{questions, first_no, refusal_of};
+ghost use Rattle.model.specs.Questions.{refusal_of};
 ghost use Rattle.layout.specs.Encode.{decode};
 ghost use Rattle.layout.specs.Sound.{Sound};
 ghost use Rattle.layout.specs.Values.{step_value};
 ghost use Rattle.refusals.specs.Numbers.{refusal_in};
 ghost use Rattle.kinds.specs.Table.{kind_value};
-ghost use Rattle.questions.specs.Answers.{answer_to, asked, asked_first, asked_of_all};
+ghost use Rattle.questions.specs.Answers.{answer_to, asked};
 
 use kinds::{Kind, Meaning};
 use layout::words::{most, states};
@@ -21,7 +20,6 @@ use layout::{HazardId, NodeId, ProcessId, Step};
 use refusals::Refusal;
 
 // 5: is the process one of the domain's?
-#[inline(always)]
 fn process_in_range(words: &[u32], kind: Kind, p: ProcessId) -> bool
     requires { Sound words.now }
     ensures { result ≡ answer_to 5 (asked (kind_value kind) words.now p.0 0 0 0) }
@@ -30,7 +28,6 @@ fn process_in_range(words: &[u32], kind: Kind, p: ProcessId) -> bool
 }
 
 // 20: is the process present, or absent where it is to join?
-#[inline(always)]
 fn present_or_joins(words: &[u32], kind: Kind, p: ProcessId) -> bool
     requires { Sound words.now }
     ensures { result ≡ answer_to 20 (asked (kind_value kind) words.now p.0 0 0 0) }
@@ -40,7 +37,6 @@ fn present_or_joins(words: &[u32], kind: Kind, p: ProcessId) -> bool
 }
 
 // 21: has the process no hazard assigned, no store pending and no node under way?
-#[inline(always)]
 fn unburdened(words: &[u32], kind: Kind, p: ProcessId) -> bool
     requires { Sound words.now }
     ensures { result ≡ answer_to 21 (asked (kind_value kind) words.now p.0 0 0 0) }
@@ -51,7 +47,6 @@ fn unburdened(words: &[u32], kind: Kind, p: ProcessId) -> bool
 }
 
 // 22: is the second process, which the node field names, another one of the domain's and present?
-#[inline(always)]
 fn takes_over(words: &[u32], kind: Kind, p: ProcessId, c: NodeId) -> bool
     requires { Sound words.now }
     ensures { result ≡ answer_to 22 (asked (kind_value kind) words.now p.0 0 c.0 0) }
@@ -62,7 +57,6 @@ fn takes_over(words: &[u32], kind: Kind, p: ProcessId, c: NodeId) -> bool
 }
 
 // 6: is the hazard one of a process's?
-#[inline(always)]
 fn hazard_in_range(words: &[u32], kind: Kind, h: HazardId) -> bool
     requires { Sound words.now }
     ensures { result ≡ answer_to 6 (asked (kind_value kind) words.now 0 h.0 0 0) }
@@ -71,7 +65,6 @@ fn hazard_in_range(words: &[u32], kind: Kind, h: HazardId) -> bool
 }
 
 // 7: is the node one of the domain's?
-#[inline(always)]
 fn node_in_range(words: &[u32], kind: Kind, c: NodeId) -> bool
     requires { Sound words.now }
     ensures { result ≡ answer_to 7 (asked (kind_value kind) words.now 0 0 c.0 0) }
@@ -80,7 +73,6 @@ fn node_in_range(words: &[u32], kind: Kind, c: NodeId) -> bool
 }
 
 // 23: is the limit one that a portion may have?
-#[inline(always)]
 fn limit_in_range(kind: Kind, limit: u32) -> bool
     ensures { result ≡ answer_to 23 (asked (kind_value kind) [] 0 0 0 limit) }
 {
@@ -88,7 +80,6 @@ fn limit_in_range(kind: Kind, limit: u32) -> bool
 }
 
 // 8: is the node in the state that the kind needs?
-#[inline(always)]
 fn state_met(words: &[u32], kind: Kind, c: NodeId) -> bool
     requires { Sound words.now }
     ensures { result ≡ answer_to 8 (asked (kind_value kind) words.now 0 0 c.0 0) }
@@ -100,7 +91,6 @@ fn state_met(words: &[u32], kind: Kind, c: NodeId) -> bool
 }
 
 // 9: does the process own the node?
-#[inline(always)]
 fn owned(words: &[u32], kind: Kind, p: ProcessId, c: NodeId) -> bool
     requires { Sound words.now }
     ensures { result ≡ answer_to 9 (asked (kind_value kind) words.now p.0 0 c.0 0) }
@@ -109,7 +99,6 @@ fn owned(words: &[u32], kind: Kind, p: ProcessId, c: NodeId) -> bool
 }
 
 // 10: has the hazard a node assigned?
-#[inline(always)]
 fn assigned(words: &[u32], kind: Kind, p: ProcessId, h: HazardId) -> bool
     requires { Sound words.now }
     ensures { result ≡ answer_to 10 (asked (kind_value kind) words.now p.0 h.0 0 0) }
@@ -118,7 +107,6 @@ fn assigned(words: &[u32], kind: Kind, p: ProcessId, h: HazardId) -> bool
 }
 
 // 11: is that node Reachable?
-#[inline(always)]
 fn reachable(words: &[u32], kind: Kind, p: ProcessId, h: HazardId) -> bool
     requires { Sound words.now }
     ensures { result ≡ answer_to 11 (asked (kind_value kind) words.now p.0 h.0 0 0) }
@@ -127,7 +115,6 @@ fn reachable(words: &[u32], kind: Kind, p: ProcessId, h: HazardId) -> bool
 }
 
 // 12: is the hazard validated?
-#[inline(always)]
 fn validated(words: &[u32], kind: Kind, p: ProcessId, h: HazardId) -> bool
     requires { Sound words.now }
     ensures { result ≡ answer_to 12 (asked (kind_value kind) words.now p.0 h.0 0 0) }
@@ -136,7 +123,6 @@ fn validated(words: &[u32], kind: Kind, p: ProcessId, h: HazardId) -> bool
 }
 
 // 13: is there room in the buffer?
-#[inline(always)]
 fn room(words: &[u32], kind: Kind, p: ProcessId) -> bool
     requires { Sound words.now }
     ensures { result ≡ answer_to 13 (asked (kind_value kind) words.now p.0 0 0 0) }
@@ -145,7 +131,6 @@ fn room(words: &[u32], kind: Kind, p: ProcessId) -> bool
 }
 
 // 14: is a store pending?
-#[inline(always)]
 fn store_pending(words: &[u32], kind: Kind, p: ProcessId) -> bool
     requires { Sound words.now }
     ensures { result ≡ answer_to 14 (asked (kind_value kind) words.now p.0 0 0 0) }
@@ -154,7 +139,6 @@ fn store_pending(words: &[u32], kind: Kind, p: ProcessId) -> bool
 }
 
 // 15: can the clock go on?
-#[inline(always)]
 fn clock_goes_on(words: &[u32], kind: Kind) -> bool
     requires { Sound words.now }
     ensures { result ≡ answer_to 15 (asked (kind_value kind) words.now 0 0 0 0) }
@@ -163,7 +147,6 @@ fn clock_goes_on(words: &[u32], kind: Kind) -> bool
 }
 
 // 16: is every pending store younger than the delay?
-#[inline(always)]
 fn stores_young(words: &[u32], kind: Kind) -> bool
     requires { Sound words.now }
     ensures { result ≡ answer_to 16 (asked (kind_value kind) words.now 0 0 0 0) }
@@ -172,7 +155,6 @@ fn stores_young(words: &[u32], kind: Kind) -> bool
 }
 
 // 17: has no hazard of the process a node assigned?
-#[inline(always)]
 fn none_assigned(words: &[u32], kind: Kind, p: ProcessId) -> bool
     requires { Sound words.now }
     ensures { result ≡ answer_to 17 (asked (kind_value kind) words.now p.0 0 0 0) }
@@ -188,14 +170,22 @@ fn holds(answer: bool, refusal: Refusal) -> Result<(), Refusal>
     if answer { Ok(()) } else { Err(refusal) }
 }
 
-// Asks from question 10 on, which are each of one kind or two. The list is three functions: as one it is too long to be folded into the arm
-// of leave.
+// Asks a step of this kind, whatever its kind field: one list, to be folded into each kind's arm of the dispatch.
 #[inline(always)]
-fn rest(words: &[u32], kind: Kind, step: Step) -> Result<(), Refusal>
+pub fn ask(words: &[u32], kind: Kind, step: Step) -> Result<(), Refusal>
     requires { Sound words.now }
-    ensures { refusal_in result ≡ first_no (drop asked_of_all (questions (kind_value kind) (decode words.now) (step_value step))) }
+    ensures { refusal_in result ≡ refusal_of (kind_value kind) (decode words.now) (step_value step) }
 {
-    let (p, h) = (step.process, step.hazard);
+    let (p, h, c) = (step.process, step.hazard, step.node);
+    holds(process_in_range(words, kind, p), Refusal::NoSuchProcess)?;
+    holds(present_or_joins(words, kind, p), Refusal::WrongAttendance)?;
+    holds(unburdened(words, kind, p), Refusal::Burdened)?;
+    holds(takes_over(words, kind, p, c), Refusal::NobodyTakesOver)?;
+    holds(hazard_in_range(words, kind, h), Refusal::NoSuchHazard)?;
+    holds(node_in_range(words, kind, c), Refusal::NoSuchNode)?;
+    holds(limit_in_range(kind, step.guest), Refusal::LimitOutOfRange)?;
+    holds(state_met(words, kind, c), Refusal::WrongState)?;
+    holds(owned(words, kind, p, c), Refusal::NotOwner)?;
     holds(assigned(words, kind, p, h), Refusal::NothingAssigned)?;
     holds(reachable(words, kind, p, h), Refusal::NotReachable)?;
     holds(validated(words, kind, p, h), Refusal::NotValidated)?;
@@ -206,39 +196,7 @@ fn rest(words: &[u32], kind: Kind, step: Step) -> Result<(), Refusal>
     holds(none_assigned(words, kind, p), Refusal::StillAssigned)
 }
 
-// Asks from question 6 on: first what the step names, by the table.
-#[inline(always)]
-fn named(words: &[u32], kind: Kind, step: Step) -> Result<(), Refusal>
-    requires { Sound words.now }
-    ensures { refusal_in result ≡ first_no (drop asked_first (questions (kind_value kind) (decode words.now) (step_value step))) }
-{
-    let (p, c) = (step.process, step.node);
-    holds(
-        hazard_in_range(words, kind, step.hazard),
-        Refusal::NoSuchHazard,
-    )?;
-    holds(node_in_range(words, kind, c), Refusal::NoSuchNode)?;
-    holds(limit_in_range(kind, step.guest), Refusal::LimitOutOfRange)?;
-    holds(state_met(words, kind, c), Refusal::WrongState)?;
-    holds(owned(words, kind, p, c), Refusal::NotOwner)?;
-    rest(words, kind, step)
-}
-
-// Asks a step of this kind, whatever its own kind field: with the kind as a literal only its own questions are left.
-#[inline(always)]
-pub fn ask(words: &[u32], kind: Kind, step: Step) -> Result<(), Refusal>
-    requires { Sound words.now }
-    ensures { refusal_in result ≡ refusal_of (kind_value kind) (decode words.now) (step_value step) }
-{
-    let (p, c) = (step.process, step.node);
-    holds(process_in_range(words, kind, p), Refusal::NoSuchProcess)?;
-    holds(present_or_joins(words, kind, p), Refusal::WrongAttendance)?;
-    holds(unburdened(words, kind, p), Refusal::Burdened)?;
-    holds(takes_over(words, kind, p, c), Refusal::NobodyTakesOver)?;
-    named(words, kind, step)
-}
-
-// Asks a step.
+// Asks a step of the kind that its kind field names.
 pub fn refusal(words: &[u32], step: Step) -> Result<(), Refusal>
     requires { Sound words.now }
     ensures { refusal_in result ≡ refusal_of (kind_of step.kind) (decode words.now) (step_value step) }
