@@ -16,8 +16,6 @@ pub const ALLOCATE: u32 = 1;
 
 pub const PUBLISH: u32 = 2;
 
-pub const PROTECT: u32 = 3;
-
 pub const REMOVE: u32 = 7;
 
 pub const REINSERT: u32 = 14;
