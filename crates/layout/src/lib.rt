@@ -1,11 +1,11 @@
-// The values that travel by value: ids, parameters, and the records that stand in a domain's words; a word as an index, where things
-// stand, and words cleared.
+// The values that travel by value: ids, parameters, and the records that stand in a domain's words; a word as an index, and where things
+// stand.
 #![tactic(auto)]
 
 pub mod fresh;
 pub mod words;
 
-ghost use Rattle.std.specs.Prelude.{◌≡◌, ◌+◌, ◌*◌, ◌<◌, ◌≤◌, length, replicate};
+ghost use Rattle.std.specs.Prelude.{◌≡◌, ◌<◌, ◌≤◌};
 ghost use Rattle.model.specs.Params.{most_processes, most_hazards, most_nodes};
 ghost use Rattle.layout.specs.Shape.{process_width, process_start};
 ghost use Rattle.layout.specs.Encode.{shape};
@@ -121,11 +121,4 @@ pub fn nodes_width(m: u32) -> usize
     ensures { result ≡ shape.nodes.width m }
 {
     node_word::WIDTH * wide(m)
-}
-
-// All words become 0.
-pub fn clear(words: &mut [u32])
-    ensures { words.new ≡ replicate (length words.old) 0 }
-{
-    words.fill(0);
 }

@@ -5,7 +5,7 @@ use mathlib.Core.Bool.{and_assoc, and_comm, not-not}
 use Rattle.lists.proofs.UptoParts.{and-swap}
 use Rattle.layout.specs.Shape.{word}
 use Rattle.limits.specs.declared.Faults.{Faults}
-use Rattle.limits.specs.Limits.{none, turned, within, in_row}
+use Rattle.limits.specs.Limits.{none, within}
 use Rattle.limits.proofs.Tests.{over}
 
 nor : (a b : Bool) → not (a || b) ≡ (not a && not b)
@@ -81,8 +81,3 @@ piece-none f ws a t x y z =
     (leb (word ws (a + 1)) x)
     (leb (word ws (a + 2)) y)
     (leb (word ws (a + 3)) z))
-
--- by limits that a table keeps turned
-pub row-none : (ws ls : List ℕ) (a b t x y z : ℕ) (f r : Bool) → t ≡ turned (word ls b) → x ≡ turned (word ls (b + 1))
-    → y ≡ turned (word ls (b + 2)) → z ≡ turned (word ls (b + 3)) → r ≡ (f && within ws a t x y z) → r ≡ (f && in_row ws a ls b)
-row-none ws ls a b t x y z f r et ex ey ez h = h ∙ (λ i. f && within ws a (et i) (ex i) (ey i) (ez i))

@@ -15,13 +15,9 @@ use Rattle.layout.specs.Shape.{word}
 use Rattle.layout.specs.Nodes.{node_fits, nodes_fit}
 use Rattle.nodes.specs.Part.{node_in, Part}
 use Rattle.nodes.proofs.Words.{word_at}
-use Rattle.limits.specs.Limits.{turned, within, in_row, any_word}
+use Rattle.limits.specs.Limits.{turned, within, any_word}
 use Rattle.nodes.specs.NodeLimits.{node_limits, in_limits, NodesFit}
 use Rattle.limits.proofs.Tests.{below, only_zero, turned-back}
-
-pub node-none : (r ls : List ℕ) (m c s a i : ℕ) (x z : Bool) → s ≡ (node_in m r c).state → a ≡ node_width * c → i ≡ s
-    → z ≡ (x && in_row r (a + 1) ls (i * 4)) → z ≡ (x && in_limits ls m r c)
-node-none r ls m c s a i x z es ea ei h = h ∙ (λ t. x && in_row r (ea t + 1) ls ((ei ∙ es) t * 4))
 
 -- the five words against the row of the state, and by the paper's clauses
 module _ (n clock : ℕ) where

@@ -10,7 +10,7 @@ use lib.Seq.{take_all}
 use lib.ListN.{get_or, take, length-take}
 use lib.Dec.{eqb}
 use Rattle.lists.specs.Tests.{count}
-use Rattle.lists.proofs.Turns.{one-most, count_turn}
+use Rattle.lists.proofs.Turns.{count_turn}
 use Rattle.lists.proofs.Counts.{count_most}
 use Rattle.model.specs.State.{Node, Reachable, Retired, free_node}
 use Rattle.layout.specs.Nodes.{nodes_in}
@@ -32,10 +32,6 @@ weighed (suc (suc zero)) h = refl
 weighed (suc (suc (suc zero))) h = refl
 weighed (suc (suc (suc (suc zero)))) h = refl
 weighed (suc (suc (suc (suc (suc s))))) h = absurd (omega arith)
-
--- so no more than 1 for any
-pub light : (s : ℕ) {ws : List ℕ} → ws ≡ state_weights → s ≤ Retired → get_or ws s 0 ≤ 1
-light s e h = rw e (omega (arith, weighed s h, one-most (eqb s Reachable)))
 
 -- what a node adds, where they are counted and where they are not
 pub weight-counts : {b : Bool} (n : Node) {ws : List ℕ} {s w : ℕ} → b ≡ true → ws ≡ state_weights → w ≡ s → s ≡ n.state
@@ -70,12 +66,9 @@ module _ {x b : Bool} {m : ℕ} {r ls : List ℕ} where
   pub stops : {i : ℕ} → Part m r → i < m → Retired < (node_in m r i).state → Finds x b m r ls None
   stops h l many = record { fits = nodes-stop x r ls h l many; counted = refl }
 
-  pub ends-well : {i : ℕ} {k : Known} → i ≡ m → GoneOver x b m r ls i k → true ≡ none k.faults → Finds x b m r ls (Some k.reachable)
-  ends-well {i} e g good =
+  pub ends : {i : ℕ} {k : Known} → i ≡ m → GoneOver x b m r ls i k → true ≡ none k.faults → Finds x b m r ls (Some k.reachable)
+  ends {i} e g good =
       record {
         fits = nodes-end x r ls e g.fits good;
         counted = ap (λ (n : ℕ). Some n) (count-all (is_counted b) m r i g.counted (omega arith));
       }
-
-  pub ends-amiss : {i : ℕ} {k : Known} → i ≡ m → GoneOver x b m r ls i k → false ≡ none k.faults → Finds x b m r ls None
-  ends-amiss e g bad = record { fits = nodes-end x r ls e g.fits bad; counted = refl }

@@ -96,10 +96,6 @@ module _ {f : ℕ → Node → Bool} {m : ℕ} {r places : List ℕ} {count i : 
         passed = rw add-zero at (passed-more l false (sym e));
       }
 
-  -- the places that are noted are there
-  pub room-for : count ≤ length places
-  room-for = omega (arith, h.room, h.few, h.low, h.part.few)
-
   pub notes-all : {r' : List ℕ} → m ≤ i → r' ≡ freed_at (take count places) m r → Swept f m r r' count
   notes-all l e =
       let q : length (nodes_in m r) ≤ i = rw many l in
@@ -158,6 +154,3 @@ module _ {m : ℕ} {places r₀ r : List ℕ} {j : ℕ} (h : Freeing m places r�
             e ∙ (λ t. nodes_words (set (now-nodes t) (q t) free_node))
             ∙ ap (nodes_words) (each_turn free_node places j (nodes_in m r₀) l);
       }
-
-  pub frees_all : length places ≤ j → r ≡ freed_at places m r₀
-  frees_all l = h.words ∙ ap (λ (cs : List ℕ). freed_at cs m r₀) (take_all j places l)

@@ -12,7 +12,7 @@ use Rattle.lists.proofs.UptoParts.{all_join}
 use Rattle.model.specs.Params.{Params, Between, most_hazards, buffer_size, hazard_width, store_width}
 use Rattle.layout.specs.Shape.{Lead, word, hazard_place, stores_place, store_place, process_width, process_start}
 use Rattle.layout.specs.Encode.{shape, params_in}
-use Rattle.layout.specs.Words.{lead_fits, hazard_fits, store_fits, process_fits_by, processes_fit}
+use Rattle.layout.specs.Words.{lead_fits, hazard_fits, store_fits, process_fits_by}
 use Rattle.layout.proofs.Places.{lead_from, lead_from_lem}
 use Rattle.layout.specs.Codecs.{present_word}
 use Rattle.layout.proofs.Fits.{hazard-facts}
@@ -62,11 +62,6 @@ module _ (l : Limits) (stores : ℕ) (ws : List ℕ) (at : ℕ) where
       let q : half_size + j ≡ 0 + (half_size + j) = omega arith in λ t. store_within l stores ws (e t) (q t)) in
       rw (hz, hy) (and_assoc x _ _)
       ∙ ap (λ (b : Bool). x && b) (ap (λ (b : Bool). half_within l stores ws at 0 && b) more ∙ sym (all_join f half_size half_size))
-
-pub hazard-none : (ws : List ℕ) (m before at : ℕ) (x y z : Bool) → at ≡ before + 1
-    → y ≡ (x && not (ltb (word ws (at + 1)) (word ws (at + 2)))) → z ≡ (y && within ws before 1 m m 1)
-    → z ≡ (x && hazard_within m ws before)
-hazard-none ws m before at x y z ea hy hz = rw (hz, hy, ea, add_assoc before 1 1, add_assoc before 1 2) (and_assoc x _ _)
 
 module _ (ws : List ℕ) (m before : ℕ) where
   pub hazards-start : (x : Bool) → x ≡ (x && hazards_within m ws before 0)
@@ -285,9 +280,6 @@ module _ (ws : List ℕ) where
   process-turn ready l of k at p x y ek ea hx hy =
       let fit = process-fits ws a₀ clock₀ (process_start shape a₀.hazards p) l of ready.sizes.hazards ready.quiescence in
       rw (hy, ek, ea, fit) (all_more fits p x hx)
-
-  pub processes-end : (p : ℕ) (x y : Bool) → p ≡ a₀.processes → x ≡ all_upto fits p → y ≡ x → y ≡ processes_fit ws
-  processes-end p x y e hx hy = rw (hy, hx, e)
 
   -- the words of a further process are there
   pub process-room : (k p at : ℕ) → Ready ws → k ≡ a₀.hazards → p < a₀.processes → at ≡ process_start shape a₀.hazards p

@@ -14,6 +14,7 @@ use layout::words::{head_word, most, paths};
 
 // Whether the head's words are in their ranges. Word by word, each with a way out: taken together they are made into a vector, and the
 // vector unit is what the rest of the check waits for.
+#[tactic(auto, unfolding(layout::specs::Words::head_fits))]
 fn head_fits(words: &[u32]) -> bool
     requires { shape.head_width ≤ length words.now }
     ensures { result ≡ head_fits (shape.head.get words.now) }

@@ -41,11 +41,6 @@ pub nodes_width-requires : goal.nodes_width-requires
 nodes_width-requires c =
     (head-facts _ (sym c.head_fits.ensures ∙ c.if-not-head_fits.false)).params.nodes.1
 
-pub overflow_add-a : goal.overflow_add-a
-overflow_add-a c =
-    let r = (head-facts _ (sym c.head_fits.ensures ∙ c.if-not-head_fits.false)).params in
-    omega (arith, c.process_start-a.ensures.1, c.nodes_width.ensures, r.nodes.1)
-
 pub returns-then-words-a : goal.returns-then-words-a
 returns-then-words-a c =
     let ws = c.args.words.now in

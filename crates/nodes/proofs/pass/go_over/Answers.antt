@@ -1,5 +1,5 @@
 -- `pass::go_over` meets its contract. The invariant is what `further` promises, of the first i nodes. Assumes nothing.
-use Rattle.nodes.proofs.GoingOver.{starts, few, stops, ends-well}
+use Rattle.nodes.proofs.GoingOver.{starts, few, stops, ends}
 use mathlib.Core.Path.{refl, sym, ◌∙◌}
 use native.Mathlib.Omega.{arith}
 use Rattle.nodes.proofs.pass.go_over.Goals as goal
@@ -23,4 +23,4 @@ loop-i-preserved c = (omega arith, c.further-known.ensures _ c.loop-i.invariant.
 
 pub returns-then-is_clean : goal.returns-then-is_clean
 returns-then-is_clean c =
-    ends-well {i = c.loop-i.i} (omega arith) c.loop-i.invariant.1 (sym c.if-is_clean.true ∙ c.is_clean.ensures)
+    ends {i = c.loop-i.i} (omega arith) c.loop-i.invariant.1 (sym c.if-is_clean.true ∙ c.is_clean.ensures)

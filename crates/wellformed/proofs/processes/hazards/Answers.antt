@@ -1,7 +1,7 @@
 -- `processes::hazards` meets its contract. The invariant: what the first h hazards leave. Assumes nothing.
 use Rattle.wellformed.proofs.ProcessWithin.{hazards-start, hazards-turn}
 use Rattle.limits.specs.Limits.{none}
-use Rattle.std.proofs.Common.{◌≡◌, arith}
+use Rattle.std.proofs.Common.{arith}
 use Rattle.wellformed.proofs.processes.hazards.Goals as goal
 
 pub loop-h-init : goal.loop-h-init
@@ -11,8 +11,3 @@ pub loop-h-preserved : goal.loop-h-preserved
 loop-h-preserved c =
     let a = c.args in
     (omega arith, hazards-turn a.words.now a.m a.before _ (none a.faults) _ _ c.loop-h.invariant.1 c.hazard-faults.ensures)
-
-pub returns : goal.returns
-returns c =
-    let e : c.loop-h.h ≡ c.args.k = omega arith in
-    rw (← e) c.loop-h.invariant.1
