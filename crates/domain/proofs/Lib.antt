@@ -7,3 +7,4 @@ pub mod Assigned
 pub mod Passing
 pub mod Clearing
 pub mod Seeking
+pub mod Found

@@ -4,6 +4,7 @@ use mathlib.Core.Bool.{Bool, true, false}
 use mathlib.Core.List.{List}
 use mathlib.Core.Path.{◌≡◌}
 use native.Mathlib.Omega.{arith}
+use Rattle.std.specs.Prelude.{Some, None}
 use Rattle.lists.specs.Tests.{first_from}
 use Rattle.lists.proofs.First.{Seeking, seek-starts, seek-turn, seek_found, seek-ends}
 use Rattle.model.specs.State.{Process, no_process, process_of}
@@ -11,6 +12,8 @@ use Rattle.layout.specs.Encode.{decode, params_in}
 use Rattle.layout.specs.Sound.{Sound}
 use Rattle.layout.specs.Values.{params_value}
 use Rattle.layout.specs.declared.Params.{Params}
+use Rattle.domain.specs.Found.{process_below}
+use Rattle.domain.proofs.Found.{found-at, found-none}
 use Rattle.domain.proofs.ReadParams.{processes-length, processes-word}
 
 -- none of the first p of n processes passes
@@ -34,10 +37,13 @@ module _ {f : ℕ → Process → Bool} {ws : List ℕ} {n p : ℕ} (h : Looking
         seeking = seek-turn no_process h.seeking (omega (arith, h.many, processes-length h.sound)) e;
       }
 
-  pub look-found : p < n → f p (process_of (decode ws) p) ≡ true → p ≡ first_from f 0 (decode ws).processes
-  look-found l e = seek_found no_process h.seeking (omega (arith, h.many, processes-length h.sound)) e
+  pub look-found : p < n → f p (process_of (decode ws) p) ≡ true
+      → Some (record { 0 = p }) ≡ process_below (params_in ws).processes (first_from f 0 (decode ws).processes)
+  look-found l e =
+      found-at (λ q. record { 0 = q }) (seek_found no_process h.seeking (omega (arith, h.many, processes-length h.sound)) e)
+      (omega (arith, h.many))
 
-  pub look-ends : n ≤ p → n ≡ first_from f 0 (decode ws).processes
+  pub look-ends : n ≤ p → None ≡ process_below (params_in ws).processes (first_from f 0 (decode ws).processes)
   look-ends l =
-      let e = seek-ends h.seeking (omega (arith, h.low, h.many, processes-length h.sound)) in
-      omega (arith, e, h.low)
+      found-none (λ q. record { 0 = q }) (seek-ends h.seeking (omega (arith, h.low, h.many, processes-length h.sound)))
+      (omega (arith, h.many))

@@ -34,8 +34,8 @@ pub fn lead(words: &[u32], p: ProcessId) -> Lead
     requires { Sound words.now × (p.0 < (params_in words.now).processes) }
     ensures { lead_value result ≡ lead_of (process_in words.now p.0) }
 {
-    let Place { from, to, .. } = place_of(words, p);
-    stretch::lead(&words[from..to])
+    let at = place_of(words, p);
+    stretch::lead(&words[at.from..at.to])
 }
 
 // Hazard h of process p.
@@ -44,9 +44,7 @@ pub fn hazard(words: &[u32], p: ProcessId, h: HazardId) -> Hazard
     ensures { hazard_value result ≡ hazard_of (process_in words.now p.0) h.0 }
 {
     let at = place_of(words, p);
-    let from = at.from;
-    let to = at.to;
-    stretch::hazard(&words[from..to], at, h)
+    stretch::hazard(&words[at.from..at.to], at, h)
 }
 
 // Has no hazard of process p a node assigned?
@@ -55,9 +53,7 @@ pub fn unassigned(words: &[u32], p: ProcessId) -> bool
     ensures { result ≡ unassigned (process_in words.now p.0) }
 {
     let at = place_of(words, p);
-    let from = at.from;
-    let to = at.to;
-    stretch::unassigned(&words[from..to], at)
+    stretch::unassigned(&words[at.from..at.to], at)
 }
 
 // Writes the epoch, calls and presence of process p.
@@ -66,9 +62,7 @@ pub fn set_lead(words: &mut [u32], p: ProcessId, epoch: u32, calls: u32, presenc
     ensures { words.new ≡ process_changed p.0 (λ x. with_words x epoch calls presence) words.old }
 {
     let at = place_of(words, p);
-    let from = at.from;
-    let to = at.to;
-    stretch::set_lead(&mut words[from..to], at, epoch, calls, presence);
+    stretch::set_lead(&mut words[at.from..at.to], at, epoch, calls, presence);
 }
 
 // Writes these and whether process p is present.
@@ -84,9 +78,14 @@ pub fn set_words(
     ensures { words.new ≡ process_changed p.0 (λ x. with_present (with_words x epoch calls presence) present) words.old }
 {
     let at = place_of(words, p);
-    let from = at.from;
-    let to = at.to;
-    stretch::set_words(&mut words[from..to], at, epoch, calls, presence, present);
+    stretch::set_words(
+        &mut words[at.from..at.to],
+        at,
+        epoch,
+        calls,
+        presence,
+        present,
+    );
 }
 
 // Validates hazard h of process p.
@@ -95,7 +94,5 @@ pub fn validate(words: &mut [u32], p: ProcessId, h: HazardId)
     ensures { words.new ≡ process_changed p.0 (λ x. validating x h.0) words.old }
 {
     let at = place_of(words, p);
-    let from = at.from;
-    let to = at.to;
-    stretch::validate(&mut words[from..to], at, h);
+    stretch::validate(&mut words[at.from..at.to], at, h);
 }

@@ -5,9 +5,10 @@ ghost use Rattle.model.specs.State.{clear_presence};
 ghost use Rattle.model.specs.Hazards.{young};
 ghost use Rattle.model.specs.Epochs.{caught_up, all_checked_in};
 ghost use Rattle.model.specs.Why.{laggard};
-ghost use Rattle.layout.specs.Encode.{decode};
+ghost use Rattle.layout.specs.Encode.{decode, params_in};
 ghost use Rattle.layout.specs.Sound.{Sound};
 ghost use Rattle.domain.specs.Effects.{changed};
+ghost use Rattle.domain.specs.Found.{process_below};
 
 use layout::ProcessId;
 
@@ -20,10 +21,8 @@ pub fn all_young(words: &[u32]) -> bool
 {
     let n = crate::bounds(words).processes;
     let mut ok = true;
-    let mut p: u32 = 0;
-    while p < n {
-        ok = ok & crate::stores::young(words, ProcessId(p));
-        p += 1;
+    for p in 0..n {
+        ok &= crate::stores::young(words, ProcessId(p));
     }
     ok
 }
@@ -35,33 +34,29 @@ pub fn caught_up(words: &[u32]) -> bool
 {
     let n = crate::bounds(words).processes;
     let epoch = crate::epoch(words);
-    let mut q: u32 = 0;
-    while q < n {
+    for q in 0..n {
         let lead = crate::process::lead(words, ProcessId(q));
         if (lead.present == 1) & (lead.epoch != epoch) {
             return false;
         }
-        q += 1;
     }
     true
 }
 
-// The lowest present process whose local epoch differs from the global one; N where there is none.
-pub fn laggard(words: &[u32]) -> u32
+// The lowest present process whose local epoch differs from the global one.
+pub fn laggard(words: &[u32]) -> Option<ProcessId>
     requires { Sound words.now }
-    ensures { result ≡ laggard (decode words.now) }
+    ensures { result ≡ process_below (params_in words.now).processes (laggard (decode words.now)) }
 {
     let n = crate::bounds(words).processes;
     let epoch = crate::epoch(words);
-    let mut p: u32 = 0;
-    while p < n {
+    for p in 0..n {
         let l = crate::process::lead(words, ProcessId(p));
         if (l.present == 1) & (l.epoch != epoch) {
-            return p;
+            return Some(ProcessId(p));
         }
-        p += 1;
     }
-    n
+    None
 }
 
 // Have all processes that are present checked in: is each of their presence words 1?
@@ -70,13 +65,11 @@ pub fn all_checked_in(words: &[u32]) -> bool
     ensures { result ≡ all_checked_in (decode words.now) }
 {
     let n = crate::bounds(words).processes;
-    let mut p: u32 = 0;
-    while p < n {
+    for p in 0..n {
         let lead = crate::process::lead(words, ProcessId(p));
         if (lead.present == 1) & (lead.presence != 1) {
             return false;
         }
-        p += 1;
     }
     true
 }
@@ -87,10 +80,8 @@ pub fn clear_presence(words: &mut [u32])
     ensures { words.new ≡ changed clear_presence words.old }
 {
     let n = crate::bounds(words).processes;
-    let mut p: u32 = 0;
-    while p < n {
+    for p in 0..n {
         let lead = crate::process::lead(words, ProcessId(p));
         crate::process::set_lead(words, ProcessId(p), lead.epoch, lead.calls, 0);
-        p += 1;
     }
 }

@@ -18,9 +18,7 @@ pub fn assign(words: &mut [u32], p: ProcessId, h: HazardId, node: u32)
 {
     let time = words[head_word::CLOCK];
     let at = process::place_of(words, p);
-    let from = at.from;
-    let to = at.to;
-    stretch::assign(&mut words[from..to], at, h, node, time);
+    stretch::assign(&mut words[at.from..at.to], at, h, node, time);
 }
 
 // Commits the oldest pending store of process p. It writes only inside that process's stretch.
@@ -30,9 +28,7 @@ pub fn drain(words: &mut [u32], p: ProcessId)
     ensures { words.new ≡ process_changed p.0 (λ x. drained x x.buffer) words.old }
 {
     let at = process::place_of(words, p);
-    let from = at.from;
-    let to = at.to;
-    stretch::buffer::drain(&mut words[from..to], at);
+    stretch::buffer::drain(&mut words[at.from..at.to], at);
 }
 
 // Commits all pending stores of process p, the oldest first. It writes only inside that process's stretch.
@@ -41,9 +37,7 @@ pub fn flush(words: &mut [u32], p: ProcessId)
     ensures { words.new ≡ process_changed p.0 (λ x. flushed x x.buffer) words.old }
 {
     let at = process::place_of(words, p);
-    let from = at.from;
-    let to = at.to;
-    stretch::buffer::flush(&mut words[from..to], at);
+    stretch::buffer::flush(&mut words[at.from..at.to], at);
 }
 
 // Is every pending store of process p younger than the delay?
@@ -54,7 +48,5 @@ pub fn young(words: &[u32], p: ProcessId) -> bool
     let clock = crate::clock(words);
     let delay = crate::delay(words);
     let at = process::place_of(words, p);
-    let from = at.from;
-    let to = at.to;
-    stretch::buffer::young(&words[from..to], at, clock, delay)
+    stretch::buffer::young(&words[at.from..at.to], at, clock, delay)
 }

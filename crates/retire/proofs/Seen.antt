@@ -12,10 +12,16 @@ use Rattle.model.proofs.WellFormed.{process-fits}
 use Rattle.layout.specs.Encode.{decode, params_in}
 use Rattle.layout.specs.Sound.{Sound}
 use Rattle.layout.proofs.Sound.{head_words_lem}
+use Rattle.std.specs.Option.{is_some}
+use Rattle.domain.specs.Found.{hazard_below}
+use Rattle.domain.proofs.Found.{some-below}
 
 pub shows_first : {ws : List ℕ} → Sound ws → (p v q : ℕ) → q < (params_in ws).processes
-    → ltb (showing_hazard (decode ws) p v q) (decode ws).params.hazards ≡ shows p v q (process_of (decode ws) q)
+    → is_some (hazard_below (params_in ws).hazards (showing_hazard (decode ws) p v q)) ≡ shows p v q (process_of (decode ws) q)
 shows_first {ws} s p v q l =
     let x = process_of (decode ws) q in
-    let wide = visible-length (eqb q p) x ∙ (process-fits s.domain q (rw (← (head_words_lem ws).processes) l)).stores.width in
-    ap (ltb (showing_hazard (decode ws) p v q)) (sym wide) ∙ first-lacks (visible_in (eqb q p) x) v
+    let fits = process-fits s.domain q (rw (← (head_words_lem ws).processes) l) in
+    let wide = visible-length (eqb q p) x ∙ fits.stores.width ∙ sym (head_words_lem ws).hazards in
+    some-below (λ h. record { 0 = h }) (params_in ws).hazards (showing_hazard (decode ws) p v q)
+    ∙ ap (ltb (showing_hazard (decode ws) p v q)) (sym wide)
+    ∙ first-lacks (visible_in (eqb q p) x) v

@@ -44,8 +44,8 @@ shown-small m [] g = tt
 shown-small m (y ∷ ys) g = (g.0, shown-small m ys g.1)
 
 -- the first k places of the room for what a process sees
-pub room : (k : ℕ) → k ≤ most_hazards → length (take (k - 0) (replicate {A = ℕ} most_hazards 0)) ≡ k
-room k h = length-take-le (k - 0) (replicate most_hazards 0) (omega arith) ∙ omega arith
+pub room : (k : ℕ) → k ≤ most_hazards → length (take k (replicate {A = ℕ} most_hazards 0)) ≡ k
+room k h = length-take-le k (replicate most_hazards 0) h
 
 module _ {ws : List ℕ} (s : Sound ws) where
   visible-small : (own : Bool) (p : ℕ) → p < (params_in ws).processes → Markable own (process_of (decode ws) p)

@@ -29,10 +29,8 @@ fn mark_all(nodes: &[u32], marks: &mut [bool; most::MARKS])
     requires { All (λ v. v ≤ most_nodes) nodes.now }
     ensures { marks.new ≡ marking marks.old nodes.now }
 {
-    let mut i = 0;
-    while i < nodes.len() {
-        mark(marks, nodes[i]);
-        i += 1;
+    for &v in nodes {
+        mark(marks, v);
     }
 }
 
@@ -52,11 +50,8 @@ fn mark_own(words: &[u32], p: ProcessId, marks: &mut [bool; most::MARKS])
     ensures { marks.new ≡ marking marks.old (visible_in true (process_in words.now p.0)) }
 {
     let at = domain::process::place_of(words, p);
-    let from = at.from;
-    let to = at.to;
-    let k = at.k;
     let mut nodes = [0; most::VIEW];
-    mark_seen(&words[from..to], at, &mut nodes[0..k], marks);
+    mark_seen(&words[at.from..at.to], at, &mut nodes[..at.k], marks);
 }
 
 // ---- the others
@@ -66,12 +61,9 @@ fn mark_row(row: &[u32], at: Place, marks: &mut [bool; most::MARKS])
     requires { Stretched at row.now × Markable false (held_in at row.now) }
     ensures { marks.new ≡ marking marks.old (visible_in false (held_in at row.now)) }
 {
-    let k = at.k;
-    let mut h: u32 = 0;
-    while layout::wide(h) < k {
+    for h in 0..at.k as u32 {
         let hazard = stretch::hazard(row, at, HazardId(h));
         mark(marks, hazard.visible);
-        h += 1;
     }
 }
 
@@ -81,9 +73,7 @@ fn mark_process(words: &[u32], q: ProcessId, marks: &mut [bool; most::MARKS])
     ensures { marks.new ≡ marking marks.old (visible_in false (process_in words.now q.0)) }
 {
     let at = domain::process::place_of(words, q);
-    let from = at.from;
-    let to = at.to;
-    mark_row(&words[from..to], at, marks);
+    mark_row(&words[at.from..at.to], at, marks);
 }
 
 // Marks each node that the hazards of the processes from one up to another show to others.
@@ -91,10 +81,8 @@ fn mark_others(words: &[u32], from: u32, to: u32, marks: &mut [bool; most::MARKS
     requires { Sound words.now × (from ≤ to) × (to ≤ (params_in words.now).processes) }
     ensures { marks.new ≡ marking marks.old (shown_from (decode words.now).processes from to) }
 {
-    let mut q = from;
-    while q < to {
+    for q in from..to {
         mark_process(words, ProcessId(q), marks);
-        q += 1;
     }
 }
 

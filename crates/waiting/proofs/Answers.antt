@@ -7,14 +7,20 @@ use mathlib.Core.Logic.{◌≢◌}
 use native.Mathlib.Omega.{arith}
 use borrow.Author.Tests.{eq-eqb, ne_eqb, lt-ltb, le-ltb, not-true, not-false}
 use lib.ListN.{length}
+use native.Mathlib.Nat.{zero-add}
+use Rattle.std.specs.Option.{is_some}
+use Rattle.lists.proofs.First.{first-at}
+use Rattle.domain.specs.Found.{hazard_below}
+use Rattle.domain.proofs.ReadParams.{processes-length}
+use Rattle.retire.proofs.Seen.{shows_first}
 use Rattle.lists.specs.Tests.{lacks}
 use Rattle.lists.proofs.Facts.{all-at}
 use Rattle.model.specs.Params.{delay}
-use Rattle.model.specs.State.{Node, Domain, Fast, Retired, free_node, node_of}
+use Rattle.model.specs.State.{Node, Domain, Fast, Retired, free_node, no_process, node_of}
 use Rattle.model.specs.WellFormed.{NodeFits}
 use Rattle.model.specs.Retire.{visible_to, age_of}
 use Rattle.model.specs.Why.{Reason, NotRetired, Young, Visible, Ready, NotAsked, Nobody, Lagging}
-use Rattle.model.specs.Why.{showing_process, showing_hazard, seen_by, ticks_left, reason_of, laggard, behind_in}
+use Rattle.model.specs.Why.{shows, showing_process, showing_hazard, seen_by, ticks_left, reason_of, laggard, behind_in}
 use Rattle.model.proofs.Why.{shown-found}
 use Rattle.layout.specs.Encode.{decode, params_in}
 use Rattle.layout.specs.Sound.{Sound}
@@ -32,6 +38,14 @@ module _ (d : Domain) (p v : ℕ) where
   seen-nowhere {q} e l =
       let hidden : lacks (visible_to d p) v ≡ true = not-false _ (sym (shown-found d p v) ∙ le-ltb _ _ (rw e at l)) in
       rw hidden
+
+-- the first process that shows it has a hazard that does
+pub shown-by : {ws : List ℕ} → Sound ws → (p v q : ℕ) → q ≡ showing_process (decode ws) p v → q < (params_in ws).processes
+    → is_some (hazard_below (params_in ws).hazards (showing_hazard (decode ws) p v q)) ≡ true
+shown-by {ws} s p v q e l =
+    let many : q < length (decode ws).processes = omega (arith, l, processes-length s) in
+    shows_first s p v q l
+    ∙ (rw (zero-add q) at (first-at (shows p v) 0 (decode ws).processes q no_process (sym e ∙ sym (zero-add q)) many))
 
 -- ---- the four answers
 

@@ -59,12 +59,10 @@ fn seen(words: &[u32], p: ProcessId, c: NodeId) -> Reason
     ensures { reason_value result ≡ seen_by (decode words.now) p.0 (suc c.0) }
 {
     let v = c.0 + 1;
-    let q = retire::shown::process(words, p, v);
-    if q < domain::bounds(words).processes {
-        let h = retire::shown::hazard(words, p, v, ProcessId(q));
-        return Reason::Visible(ProcessId(q), HazardId(h));
+    match retire::shown::process(words, p, v) {
+        Some(q) => Reason::Visible(q, retire::shown::hazard(words, p, v, q).unwrap()),
+        None => Reason::Ready,
     }
-    Reason::Ready
 }
 
 // Why node c is still waiting.
@@ -92,11 +90,10 @@ fn behind_in(words: &[u32]) -> Behind
     if domain::path(words) != paths::FAST {
         return Behind::NotAsked;
     }
-    let p = domain::processes::laggard(words);
-    if p < domain::bounds(words).processes {
-        return Behind::Lagging(ProcessId(p));
+    match domain::processes::laggard(words) {
+        Some(p) => Behind::Lagging(p),
+        None => Behind::Nobody,
     }
-    Behind::Nobody
 }
 
 // ---- both

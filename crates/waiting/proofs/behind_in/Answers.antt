@@ -1,26 +1,23 @@
 -- `waiting::behind_in` meets its contract: on the fast path the first that lags, or none. Assumes nothing.
-use mathlib.Core.Path.{sym, ◌∙◌}
-use Rattle.layout.specs.Encode.{decode}
-use Rattle.domain.proofs.ReadParams.{processes-length, processes-word}
-use Rattle.waiting.proofs.Answers.{not-asked, lagging, nobody}
+use mathlib.Core.Path.{refl, sym, ◌∙◌}
 use native.Mathlib.Omega.{arith}
+use Rattle.layout.specs.Encode.{decode}
+use Rattle.domain.proofs.Found.{process-found, process-none}
+use Rattle.domain.proofs.ReadParams.{processes-length}
+use Rattle.waiting.proofs.Answers.{not-asked, lagging, nobody}
 use Rattle.waiting.proofs.behind_in.Goals as goal
 
 pub returns-then-path-ne-FAST : goal.returns-then-path-ne-FAST
 returns-then-path-ne-FAST c = not-asked (decode c.args.words.now) (λ q. c.if-path-ne-FAST.true (c.path.ensures ∙ q))
 
-pub returns-then-p-bounds : goal.returns-then-p-bounds
-returns-then-p-bounds c =
-    let s = c.requires in
-    let n = processes-word s c.bounds.ensures in
+pub returns-in-Some : goal.returns-in-Some
+returns-in-Some c =
     let fast = sym c.path.ensures ∙ c.if-path-ne-FAST.false in
-    lagging (decode c.args.words.now) fast c.laggard-p.ensures
-    (omega (arith, n, processes-length s))
+    let q = process-found (sym c.in-Some.is ∙ c.laggard.ensures) in
+    lagging (decode c.args.words.now) fast q.0 (omega (arith, q.0, q.1, processes-length c.requires))
 
-pub returns : goal.returns
-returns c =
-    let s = c.requires in
-    let n = processes-word s c.bounds.ensures in
+pub returns-in-None : goal.returns-in-None
+returns-in-None c =
     let fast = sym c.path.ensures ∙ c.if-path-ne-FAST.false in
-    nobody (decode c.args.words.now) fast c.laggard-p.ensures
-    (omega (arith, n, processes-length s))
+    let none = process-none (sym c.in-None.is ∙ c.laggard.ensures) in
+    nobody (decode c.args.words.now) fast refl (omega (arith, none, processes-length c.requires))

@@ -7,4 +7,4 @@ use Rattle.domain.proofs.process.lead.Goals as goal
 pub returns : goal.returns
 returns c =
     let h = c.requires in
-    c.lead.ensures c.place_of-from.result.k ∙ ap lead_of (lent-process h.0 h.1 c.place_of-from.ensures)
+    c.lead.ensures c.place_of-at.result.k ∙ ap lead_of (lent-process h.0 h.1 c.place_of-at.ensures)

@@ -1,5 +1,4 @@
 -- `processes::caught_up` meets its contract: all processes so far pass, and one that does not is the way out. Assumes nothing.
-use Prim.Native.Nat.{◌-◌}
 use mathlib.Core.Bool.{true}
 use lib.Dec.{eqb}
 use Rattle.lists.specs.Tests.{implies}
@@ -10,6 +9,3 @@ use Rattle.domain.proofs.processes.caught_up.Given as goal
 
 abbrev pub invariant-loop-q : goal.invariant-loop-q
 invariant-loop-q l = Passing (λ x. implies (in_epochs x) (eqb x.epoch (decode l.words).epoch)) l.words l.n l.q true
-
-abbrev pub decreases-loop-q : goal.decreases-loop-q
-decreases-loop-q l = l.n - l.q

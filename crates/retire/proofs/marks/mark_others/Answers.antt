@@ -2,11 +2,8 @@
 use native.Mathlib.Omega.{arith}
 use Rattle.layout.specs.Encode.{decode}
 use Rattle.domain.proofs.ReadParams.{processes-length}
-use Rattle.retire.proofs.MarkedTo.{starts, turn, ends, left-processes, left-no-process}
+use Rattle.retire.proofs.MarkedTo.{turn, ends, left-processes, left-no-process}
 use Rattle.retire.proofs.marks.mark_others.Goals as goal
-
-pub loop-q-init : goal.loop-q-init
-loop-q-init c = (omega arith, omega arith, starts)
 
 pub loop-q-preserved : goal.loop-q-preserved
 loop-q-preserved c =
@@ -14,9 +11,9 @@ loop-q-preserved c =
     let inv = c.loop-q.invariant in
     let many = processes-length c.requires.0 in
     let left = left-processes (decode a.words.now).processes c.loop-q.q a.to (omega arith) (omega (arith, many)) in
-    (omega arith, omega arith, turn _ inv.2 left c.mark_process.ensures)
+    turn _ inv left c.mark_process.ensures
 
 pub returns : goal.returns
 returns c =
     let a = c.args in
-    ends c.loop-q.invariant.2 (left-no-process (decode a.words.now).processes c.loop-q.q a.to (omega arith))
+    ends c.loop-q.invariant (left-no-process (decode a.words.now).processes c.loop-q.q a.to (omega arith))

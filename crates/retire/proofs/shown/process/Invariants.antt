@@ -1,11 +1,7 @@
 -- `shown::process` meets its contract: none so far shows it, and the first that does is the way out. Assumes nothing.
-use Prim.Native.Nat.{◌-◌}
 use Rattle.model.specs.Why.{shows}
 use Rattle.domain.proofs.Seeking.{Looking}
 use Rattle.retire.proofs.shown.process.Given as goal
 
 abbrev pub invariant-loop-q : goal.invariant-loop-q
 invariant-loop-q l = Looking (shows l.p.0 l.v) l.words l.n l.q
-
-abbrev pub decreases-loop-q : goal.decreases-loop-q
-decreases-loop-q l = l.n - l.q

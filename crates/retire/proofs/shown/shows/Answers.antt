@@ -2,7 +2,7 @@
 use mathlib.Core.Bool.{true, false, not}
 use mathlib.Core.Path.{◌≡◌, ap, ◌∙◌, sym}
 use borrow.Author.Tests.{eq-eqb, ne_eqb}
-use lib.Dec.{ltb}
+use Rattle.std.specs.Option.{is_some}
 use Rattle.lists.specs.Tests.{lacks}
 use Rattle.model.specs.Retire.{visible_in}
 use Rattle.domain.specs.Effects.{process_in}
@@ -42,4 +42,4 @@ pub returns : goal.returns
 returns c =
     let h = c.requires in
     let a = c.args in
-    (λ t. ltb (c.hazard.ensures t) (c.bounds.ensures t).hazards) ∙ shows_first h.0 a.p.0 a.v a.q.0 h.1
+    c.is_some.ensures ∙ ap is_some c.hazard.ensures ∙ shows_first h.0 a.p.0 a.v a.q.0 h.1
