@@ -1,5 +1,6 @@
 // The questions before a step, numbers 4 to 17 and 20 to 23 in the papers' order: a step is refused by the first with the answer no.
-// A question that a kind is not asked has the answer yes and reads nothing, so that with the kind as a literal only its own are left.
+// A question that a kind is not asked has the answer yes and reads nothing, so that with the kind as a literal only its own are left. The list
+// and the longest questions are marked, to be folded into each kind's arm of the dispatch; the others are without a mark.
 #![tactic(auto)]
 
 pub mod read;
@@ -37,6 +38,7 @@ fn present_or_joins(words: &[u32], kind: Kind, p: ProcessId) -> bool
 }
 
 // 21: has the process no hazard assigned, no store pending and no node under way?
+#[inline(always)]
 fn unburdened(words: &[u32], kind: Kind, p: ProcessId) -> bool
     requires { Sound words.now }
     ensures { result ≡ answer_to 21 (asked (kind_value kind) words.now p.0 0 0 0) }
@@ -107,6 +109,7 @@ fn assigned(words: &[u32], kind: Kind, p: ProcessId, h: HazardId) -> bool
 }
 
 // 11: is that node Reachable?
+#[inline(always)]
 fn reachable(words: &[u32], kind: Kind, p: ProcessId, h: HazardId) -> bool
     requires { Sound words.now }
     ensures { result ≡ answer_to 11 (asked (kind_value kind) words.now p.0 h.0 0 0) }
@@ -147,6 +150,7 @@ fn clock_goes_on(words: &[u32], kind: Kind) -> bool
 }
 
 // 16: is every pending store younger than the delay?
+#[inline(always)]
 fn stores_young(words: &[u32], kind: Kind) -> bool
     requires { Sound words.now }
     ensures { result ≡ answer_to 16 (asked (kind_value kind) words.now 0 0 0 0) }

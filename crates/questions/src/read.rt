@@ -57,6 +57,7 @@ pub fn hazard(words: &[u32], p: ProcessId, h: HazardId) -> Hazard
 }
 
 // The node assigned to hazard h of process p, stored as its number + 1; the first where none is.
+#[inline(always)]
 pub fn hazard_node(words: &[u32], p: ProcessId, h: HazardId) -> Node
     requires { Sound words.now }
     ensures { node_value result ≡ target_in words.now p.0 h.0 }
