@@ -11,17 +11,6 @@ use self::Meaning::{Hazard, Limit, Node, Number, Process, Unread};
 use layout::words::states;
 use refusals::Refusal;
 
-// Numbers of kinds that callers name.
-pub const ALLOCATE: u32 = 1;
-
-pub const PUBLISH: u32 = 2;
-
-pub const REMOVE: u32 = 7;
-
-pub const REINSERT: u32 = 14;
-
-pub const PORTION: u32 = 17;
-
 // Each with its number.
 #[derive(Clone, Copy, Debug, PartialEq, Eq)]
 pub enum Kind {
@@ -43,6 +32,17 @@ pub enum Kind {
     Join = 16,
     Portion = 17,
 }
+
+// The numbers that are named where a step is not taken, but looked at.
+pub const ALLOCATE: u32 = Kind::Allocate as u32;
+
+pub const PUBLISH: u32 = Kind::Publish as u32;
+
+pub const REMOVE: u32 = Kind::Remove as u32;
+
+pub const REINSERT: u32 = Kind::Reinsert as u32;
+
+pub const PORTION: u32 = Kind::Portion as u32;
 
 impl TryFrom<u32> for Kind {
     type Error = Refusal;
