@@ -32,24 +32,13 @@ fn write_print(rt: &impl Print, out: &[u8], n: usize) -> bool
     rt.write_all(&out[0..n]).is_ok()
 }
 
-// Prints a short book, the first n bytes; a write that fails is told.
-fn print_short(rt: &(impl Print + Eprint), book: &[u8], n: usize)
-    requires { (n ≤ length book.now) × (n ≤ short_book) }
-{
-    let mut space = [0u8; rooms::SHORT_PRINT];
-    let out: &mut [u8] = &mut space;
-    let size = print_start(book, n, out);
-    if !write_print(rt, out, size) {
-        complain(rt, "desk: cannot write standard output\n");
-    }
-}
-
-// The same of a book of any length.
+// Prints the first n bytes by a buffer of N; a write that fails is told. Never a part of its caller: the pages of a frame are touched as it is
+// entered, and a short book does without those of the long buffer.
 #[inline(never)]
-fn print_long(rt: &(impl Print + Eprint), book: &[u8], n: usize)
-    requires { (n ≤ length book.now) × (n ≤ most_read) }
+fn print_by<const N: usize>(rt: &(impl Print + Eprint), book: &[u8], n: usize)
+    requires { (n ≤ length book.now) × (print_room n ≤ N) × (N ≤ print_room most_read) }
 {
-    let mut space = [0u8; rooms::PRINT];
+    let mut space = [0u8; N];
     let out: &mut [u8] = &mut space;
     let size = print_start(book, n, out);
     if !write_print(rt, out, size) {
@@ -57,15 +46,14 @@ fn print_long(rt: &(impl Print + Eprint), book: &[u8], n: usize)
     }
 }
 
-// Prints the first n bytes. A short book does without the long buffer: the pages of a frame are touched as it is entered, and print_long,
-// which writes by itself, is never made a part of main.
+// Prints the first n bytes.
 fn print_input(rt: &(impl Print + Eprint), book: &[u8], n: usize)
     requires { (n ≤ length book.now) × (n ≤ most_read) }
 {
     if n <= rooms::SHORT_BOOK {
-        print_short(rt, book, n);
+        print_by::<{ rooms::SHORT_PRINT }>(rt, book, n);
     } else {
-        print_long(rt, book, n);
+        print_by::<{ rooms::PRINT }>(rt, book, n);
     }
 }
 
@@ -73,9 +61,8 @@ fn print_input(rt: &(impl Print + Eprint), book: &[u8], n: usize)
 fn read_and_print(rt: &(impl Print + Eprint), reader: &mut impl Read) {
     let mut book = [0u8; most::READ];
     match input::read_all(reader, &mut book) {
-        Input::Whole(n) => print_input(rt, &book, n),
-        Input::Full(n) => print_long(rt, &book, n),
-        Input::Failed => complain(rt, "desk: cannot read standard input\n"),
+        Ok(Input::Whole(n) | Input::Full(n)) => print_input(rt, &book, n),
+        Err(_) => complain(rt, "desk: cannot read standard input\n"),
     }
 }
 

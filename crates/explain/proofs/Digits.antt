@@ -14,7 +14,7 @@ use Rattle.lists.specs.Tests.{every}
 use Rattle.lists.proofs.Bools.{both}
 use Rattle.lists.proofs.Tested.{Tested, tested-none, tested-more, tested-all}
 use Rattle.explain.specs.Number.{is_digit, digits_from, number_in}
-use Rattle.explain.specs.declared.number.Number.TheVariants.{None, Given}
+use Rattle.std.specs.Prelude.{Some, None}
 
 pub digit-is : (b : ℕ) → is_digit b ≡ true → (48 ≤ b) × (b ≤ 57)
 digit-is b e =
@@ -23,7 +23,7 @@ digit-is b e =
 
 -- ---- what the bytes are a number of
 
-none-by : (a b c : Bool) (n : ℕ) → (a ≡ true → b ≡ true → c ≡ true → ⊥) → None ≡ cond (a && (b && c)) (Given n) None
+none-by : (a b c : Bool) (n : ℕ) → (a ≡ true → b ≡ true → c ≡ true → ⊥) → None ≡ cond (a && (b && c)) (Some n) None
 none-by true true true n h = absurd (h refl refl refl)
 none-by true true false n h = refl
 none-by true false c n h = refl
@@ -34,7 +34,7 @@ unfolding number_in
 no_number bs h =
     none-by (leb 1 (length bs)) (leb (length bs) 9) (every is_digit bs) _ (λ e f g. h (leb-true 1 (length bs) e) (leb-true (length bs) 9 f) g)
 
-a-number : (bs : List ℕ) → 1 ≤ length bs → length bs ≤ 9 → every is_digit bs ≡ true → Given (digits_from 0 bs) ≡ number_in bs
+a-number : (bs : List ℕ) → 1 ≤ length bs → length bs ≤ 9 → every is_digit bs ≡ true → Some (digits_from 0 bs) ≡ number_in bs
 unfolding number_in
 a-number bs h k e = rw (le-leb 1 (length bs) h, le-leb (length bs) 9 k, e)
 
@@ -70,6 +70,6 @@ pub spoilt : (bs : List ℕ) (i n : ℕ) → Digits bs i n → i < length bs →
 spoilt bs i n d h e = no_number bs (λ _ _ g. false≢true ((tested-more {q = false} 0 d.digits h (sym e)).rest ∙ g))
 
 -- all of them
-pub all_read : (bs : List ℕ) (i n : ℕ) → Digits bs i n → 1 ≤ length bs → length bs ≤ 9 → i ≡ length bs → Given n ≡ number_in bs
+pub all_read : (bs : List ℕ) (i n : ℕ) → Digits bs i n → 1 ≤ length bs → length bs ≤ 9 → i ≡ length bs → Some n ≡ number_in bs
 all_read bs i n d h k e =
-    ap Given (sym (ap (digits_from n) (drop-length bs)) ∙ (rw e at d.number)) ∙ a-number bs h k (sym (tested-all d.digits e))
+    ap Some (sym (ap (digits_from n) (drop-length bs)) ∙ (rw e at d.number)) ∙ a-number bs h k (sym (tested-all d.digits e))

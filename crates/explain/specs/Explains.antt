@@ -1,15 +1,13 @@
 -- What the program `why` prints: the bytes of its output by those of its argument and its input. Assumes nothing.
-use Rattle.std.specs.Prelude.{ℕ, List, []}
+use Rattle.std.specs.Prelude.{ℕ, Option, Some, None, List, []}
 use Rattle.explain.specs.Number.{number_in}
 use Rattle.explain.specs.Sentence.{sentence, Said}
 use Rattle.explain.specs.Input.{explained_in}
-use Rattle.explain.specs.declared.number.Number.{Number}
-use Rattle.explain.specs.declared.number.Number.TheVariants.{None, Given}
 
 -- of a card's number and the input; without a number nothing, and standard error says how to call it
-abbrev pub printed_of : Number → List ℕ → List ℕ
+abbrev pub printed_of : Option ℕ → List ℕ → List ℕ
 printed_of None bs = []
-printed_of (Given c) bs = sentence c (explained_in c bs)
+printed_of (Some c) bs = sentence c (explained_in c bs)
 
 -- of the argument and the input
 unfoldable pub printed : List ℕ → List ℕ → List ℕ

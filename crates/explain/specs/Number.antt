@@ -1,8 +1,7 @@
 -- A card's number as the program `why` is given it: its argument's bytes. Assumes nothing.
 use Rattle.std.specs.Prelude.{ℕ, ◌+◌, ◌*◌, ◌-◌, Bool, ◌&&◌, cond, List, [], ◌∷◌, length, leb}
+use Rattle.std.specs.Prelude.{Option, Some, None}
 use Rattle.lists.specs.Tests.{every}
-use Rattle.explain.specs.declared.number.Number.{Number}
-use Rattle.explain.specs.declared.number.Number.TheVariants.{None, Given}
 
 -- more digits are overlong; so many fit a word
 abbrev pub most_digits : ℕ
@@ -17,5 +16,5 @@ digits_from n [] = n
 digits_from n (b ∷ bs) = digits_from (10 * n + (b - 48)) bs
 
 -- from 1 digit to the most, and nothing else
-unfoldable pub number_in : List ℕ → Number
-number_in bs = cond (leb 1 (length bs) && (leb (length bs) most_digits && every is_digit bs)) (Given (digits_from 0 bs)) None
+unfoldable pub number_in : List ℕ → Option ℕ
+number_in bs = cond (leb 1 (length bs) && (leb (length bs) most_digits && every is_digit bs)) (Some (digits_from 0 bs)) None

@@ -13,15 +13,15 @@ ghost use Rattle.explain.specs.Input.{marked, words_in, in_book, in_words, expla
 
 use layout::NodeId;
 use layout::words::most;
-use trace::widths::WORD;
 use refusals::Refusal;
+use trace::widths::WORD;
 use trace::{Header, widths};
-use waiting::Explained;
+use waiting::Why;
 
 // ---- a step book
 
 // Of a card in the domain that a book which was found ends in. The words are as many as that domain takes.
-fn at_end(words: &mut [u32], bytes: &[u8], header: Header, card: u32) -> Explained
+fn at_end(words: &mut [u32], bytes: &[u8], header: Header, card: u32) -> Result<Why, Refusal>
     requires { (front_of bytes.now ≡ given (header_value header)) × (length words.old ≡ word_count (header_value header).params) }
     ensures { explained_value result ≡ explained (end_of (led_from bytes.now (header_value header))) card }
 {
@@ -30,7 +30,7 @@ fn at_end(words: &mut [u32], bytes: &[u8], header: Header, card: u32) -> Explain
 }
 
 // The same on words of its own.
-fn in_found(bytes: &[u8], header: Header, card: u32) -> Explained
+fn in_found(bytes: &[u8], header: Header, card: u32) -> Result<Why, Refusal>
     requires { front_of bytes.now ≡ given (header_value header) }
     ensures { explained_value result ≡ explained (end_of (led_from bytes.now (header_value header))) card }
 {
@@ -41,13 +41,11 @@ fn in_found(bytes: &[u8], header: Header, card: u32) -> Explained
 }
 
 // Of a card after the last step of a book, or the book's number.
-fn in_book(bytes: &[u8], card: u32) -> Explained
+fn in_book(bytes: &[u8], card: u32) -> Result<Why, Refusal>
     ensures { explained_value result ≡ in_book card (trace_of bytes.now) }
 {
-    match trace::open_trace(bytes) {
-        Ok(header) => in_found(bytes, header, card),
-        Err(refusal) => Explained::Refused(u32::from(refusal)),
-    }
+    let header = trace::open_trace(bytes)?;
+    in_found(bytes, header, card)
 }
 
 // ---- a domain's words
@@ -57,15 +55,13 @@ fn put_words(bytes: &[u8], words: &mut [u32])
     requires { length words.old ≡ length bytes.now / word_size }
     ensures { words.new ≡ words_in bytes.now }
 {
-    let mut i = 0;
-    while i < words.len() {
-        words[i] = trace::word_at(bytes, WORD * i);
-        i += 1;
+    for (i, word) in words.iter_mut().enumerate() {
+        *word = trace::word_at(bytes, WORD * i);
     }
 }
 
 // Of a card in the words that the bytes are, put where there is room for them.
-fn of_words(words: &mut [u32], bytes: &[u8], card: u32) -> Explained
+fn of_words(words: &mut [u32], bytes: &[u8], card: u32) -> Result<Why, Refusal>
     requires { length words.old ≡ length bytes.now / word_size }
     ensures { explained_value result ≡ why_words (words_in bytes.now) card }
 {
@@ -74,12 +70,12 @@ fn of_words(words: &mut [u32], bytes: &[u8], card: u32) -> Explained
 }
 
 // Of a card in the bytes of a domain's words. Bytes that are no whole words, or more words than any domain has, are malformed.
-fn in_words(bytes: &[u8], card: u32) -> Explained
+fn in_words(bytes: &[u8], card: u32) -> Result<Why, Refusal>
     ensures { explained_value result ≡ in_words card bytes.now }
 {
     let long = bytes.len() / WORD;
     if (bytes.len() % WORD != 0) | (most::WORDS < long) {
-        return Explained::Refused(wellformed::MALFORMED as u32);
+        return Err(Refusal::Malformed);
     }
     let mut words = [0u32; most::WORDS];
     of_words(&mut words[0..long], bytes, card)
@@ -98,11 +94,11 @@ fn marked(bytes: &[u8]) -> bool
 }
 
 // Why a card is still waiting, by the bytes of a step book or of a domain's words.
-pub fn asked(bytes: &[u8], card: u32) -> Explained
+pub fn asked(bytes: &[u8], card: u32) -> Result<Why, Refusal>
     ensures { explained_value result ≡ explained_in card bytes.now }
 {
     if widths::most::BYTES < bytes.len() {
-        return Explained::Refused(u32::from(Refusal::TooLong));
+        return Err(Refusal::TooLong);
     }
     if marked(bytes) {
         return in_book(bytes, card);

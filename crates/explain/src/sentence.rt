@@ -7,7 +7,8 @@ ghost use Rattle.explain.specs.Sentence.{most_number, most_state, most_ticks, mo
 
 use layout::words::states;
 use layout::{HazardId, ProcessId};
-use waiting::{Behind, Explained, Reason, Why};
+use refusals::Refusal;
+use waiting::{Behind, Reason, Why};
 
 // ---- each puts its part from a place on, and answers the place after it
 
@@ -125,12 +126,12 @@ fn put_why(out: &mut [u8], card: u32, why: Why) -> usize
 }
 
 // Puts what is said of a card, and answers how many bytes it is.
-pub fn put_sentence(out: &mut [u8], card: u32, answer: Explained) -> usize
+pub fn put_sentence(out: &mut [u8], card: u32, answer: Result<Why, Refusal>) -> usize
     requires { most_line ≤ length out.old }
     ensures { Said card (explained_value answer) out.new result }
 {
     match answer {
-        Explained::Refused(refusal) => text::put_refused(out, refusal),
-        Explained::Told(why) => put_why(out, card, why),
+        Ok(why) => put_why(out, card, why),
+        Err(refusal) => text::put_refused(out, u32::from(refusal)),
     }
 }

@@ -6,56 +6,30 @@ ghost use Rattle.std.specs.Prelude.{◌≤◌, length};
 ghost use Rattle.input.specs.Count.{read_count};
 
 use std::env::{Env, FillError};
+use std::io;
 use std::io::{IsTerminal, Read};
 
 // What was read: so many bytes at the start of the buffer, and they are all of the input; or the buffer is full, and there may be more.
-#[derive(Clone, Copy)]
+#[derive(Clone, Copy, Debug, PartialEq, Eq)]
 pub enum Input {
     Whole(usize),
     Full(usize),
-    Failed,
 }
 
-// What one read gave: a count of bytes, 0 at the end of the input.
-#[derive(Clone, Copy)]
-struct Got {
-    ok: bool,
-    count: usize,
-}
-
-// One read into buf from `from` on.
-fn read_at(reader: &mut impl Read, buf: &mut [u8], from: usize) -> Got
-    requires { from ≤ length buf.old }
-{
-    match reader.read(&mut buf[from..]) {
-        Ok(count) => Got { ok: true, count },
-        Err(_) => Got {
-            ok: false,
-            count: 0,
-        },
-    }
-}
-
-// Reads until buf is full, the input ends, or a read fails. The count is never more than the buffer holds; that so many bytes were read,
-// and which, is not stated, since no contract says what a read leaves.
-pub fn read_all(reader: &mut impl Read, buf: &mut [u8]) -> Input
+// Reads until buf is full, the input ends, or a read fails. The count is never more than the buffer holds; which bytes were read is not
+// stated, since no contract says what a read leaves.
+pub fn read_all(reader: &mut impl Read, buf: &mut [u8]) -> io::Result<Input>
     ensures { read_count result ≤ length buf.new }
 {
-    let mut done: usize = 0;
+    let mut done = 0;
     while done < buf.len() {
-        let got = read_at(reader, buf, done);
-        if !got.ok {
-            return Input::Failed;
+        let count = reader.read(&mut buf[done..])?;
+        if count == 0 {
+            return Ok(Input::Whole(done));
         }
-        if got.count == 0 {
-            return Input::Whole(done);
-        }
-        if buf.len() - done < got.count {
-            return Input::Failed;
-        }
-        done += got.count;
+        done += count;
     }
-    Input::Full(done)
+    Ok(Input::Full(done))
 }
 
 // Whether what would be read is typed at a terminal: a person has called the program without a file.

@@ -20,18 +20,9 @@ fn take_steps(words: &mut [u32], bytes: &[u8], first: usize, count: u32)
     ensures sound { Sound words.new }
     ensures words_after { decode words.new ≡ run (decode words.old) (steps_from bytes.now first count) }
 {
-    let mut i: u32 = 0;
-    while i < count {
+    for i in 0..count {
         let step = trace::step_at(bytes, first + step_byte::WIDTH * layout::wide(i));
-        steps::step_known(
-            words,
-            step.kind,
-            step.process,
-            step.hazard,
-            step.node,
-            step.guest,
-        );
-        i += 1;
+        let _answer = steps::take_step(words, step);
     }
 }
 

@@ -7,6 +7,7 @@ pub mod most;
 ghost use Rattle.std.specs.Prelude.{◌≡◌, ◌+◌, ◌*◌, ◌≤◌, ◌<◌, length};
 ghost use Rattle.model.specs.Params.{last_clock};
 ghost use Rattle.model.specs.Claims.{lowers, accepted_as};
+ghost use Rattle.refusals.specs.Numbers.{refusal_in, value_in};
 ghost use Rattle.layout.specs.Sound.{Sound};
 ghost use Rattle.trace.specs.Bytes.{step_at, steps_from};
 ghost use Rattle.trace.specs.Claims.{led_from};
@@ -15,6 +16,7 @@ ghost use Rattle.trace.specs.Widths.{step_size, most_steps};
 ghost use Rattle.replay.specs.Most.{most_step_line};
 ghost use Rattle.replay.specs.Turn.{count_after, Counted, Taken, Ran, Ready, Replayed};
 
+use refusals::Refusal;
 use trace::Header;
 use trace::widths::step_byte;
 
@@ -27,20 +29,28 @@ struct Turn {
 
 // The reachable count after a step, from the one before it: one more after an accepted publish or reinsert, one less after an accepted
 // remove.
-fn counted(reachable: u32, kind: u32, refusal: u32) -> u32
-    requires { (reachable < last_clock) × (accepted_as lowers kind refusal ≤ reachable) }
-    ensures { result ≡ count_after reachable kind refusal }
+fn counted(reachable: u32, kind: u32, answer: Result<u32, Refusal>) -> u32
+    requires { (reachable < last_clock) × (accepted_as lowers kind (refusal_in answer) ≤ reachable) }
+    ensures { result ≡ count_after reachable kind (refusal_in answer) }
 {
-    if refusal != 0 {
+    if answer.is_err() {
         return reachable;
     }
-    if (kind == kinds::PUBLISH) | (kind == kinds::REINSERT) {
-        return reachable + 1;
+    match kind {
+        kinds::PUBLISH | kinds::REINSERT => reachable + 1,
+        kinds::REMOVE => reachable - 1,
+        _ => reachable,
     }
-    if kind == kinds::REMOVE {
-        return reachable - 1;
+}
+
+// The refusal and the value as a line has them: 0 where there is none.
+fn numbers(answer: Result<u32, Refusal>) -> (u32, u32)
+    ensures { (result.0 ≡ refusal_in answer) × (result.1 ≡ value_in answer) }
+{
+    match answer {
+        Ok(value) => (0, value),
+        Err(refusal) => (u32::from(refusal), 0),
     }
-    reachable
 }
 
 // Takes the step that stands in the bytes from `from` on, the i-th, and puts its line into the print from `at` on.
@@ -57,16 +67,10 @@ fn replay_step(
     ensures { Taken (step_at bytes.now from) i at words.old out.old words.new out.new result }
 {
     let step = trace::step_at(bytes, from);
-    let answer = steps::step_known(
-        words,
-        step.kind,
-        step.process,
-        step.hazard,
-        step.node,
-        step.guest,
-    );
-    let after = counted(reachable, step.kind, answer.refusal);
-    let end = text::put_step(out, at, i, step.kind, answer.refusal, answer.value, after);
+    let answer = steps::take_step(words, step);
+    let after = counted(reachable, step.kind, answer);
+    let (refusal, value) = numbers(answer);
+    let end = text::put_step(out, at, i, step.kind, refusal, value, after);
     Turn {
         at: end,
         reachable: after,
@@ -89,13 +93,11 @@ fn replay_steps(
 {
     let mut reachable = domain::reachable_count(words);
     let mut at = start;
-    let mut i: u32 = 0;
-    while i < count {
+    for i in 0..count {
         let from = first + step_byte::WIDTH * layout::wide(i);
         let turn = replay_step(words, bytes, from, i, reachable, out, at);
         at = turn.at;
         reachable = turn.reachable;
-        i += 1;
     }
     Turn { at, reachable }
 }

@@ -10,7 +10,6 @@ ghost use Rattle.explain.specs.Explains.{Says};
 ghost use Rattle.why.specs.Written.{IsGiven, IsNumber, IsLine};
 
 use explain::number;
-use explain::number::Number;
 use input::Input;
 use std::env::Env;
 use std::io::{IsTerminal, Read};
@@ -21,7 +20,7 @@ fn complain(rt: &impl Eprint, text: &str) {
 }
 
 // The number that the first n bytes of an argument are.
-fn number_of(arg: &[u8], n: usize) -> Number
+fn number_of(arg: &[u8], n: usize) -> Option<u32>
     requires { n ≤ length arg.now }
     ensures { result ≡ number_in (take n arg.now) }
 {
@@ -61,32 +60,30 @@ fn read_and_answer(rt: &(impl Print + Eprint), reader: &mut impl Read, card: u32
 {
     let mut book = [0u8; most::READ];
     match input::read_all(reader, &mut book) {
-        Input::Whole(n) => answer(rt, card, &book, n),
-        Input::Full(n) => answer(rt, card, &book, n),
-        Input::Failed => complain(rt, "why: cannot read standard input\n"),
+        Ok(Input::Whole(n) | Input::Full(n)) => answer(rt, card, &book, n),
+        Err(_) => complain(rt, "why: cannot read standard input\n"),
     }
 }
 
 // The argument's number; none unless there is one argument, and it is a number, and standard input is no terminal.
-fn asked(env: &impl Env, stdin: &impl IsTerminal) -> Number
+fn asked(env: &impl Env, stdin: &impl IsTerminal) -> Option<u32>
     ensures { IsGiven result }
 {
     if !input::has_argument(env, 1) || input::has_argument(env, 2) || input::is_terminal(stdin) {
-        return Number::None;
+        return None;
     }
     let mut arg = [0u8; number::DIGITS];
     match env.arg(1, &mut arg) {
         Ok(n) => number_of(&arg, n),
-        Err(_) => Number::None,
+        Err(_) => None,
     }
 }
 
 fn main(rt: HostRuntime) {
     let mut stdin = rt.stdin();
-    let number = asked(&rt, &stdin);
-    match number {
-        Number::Given(card) => read_and_answer(&rt, &mut stdin, card),
-        Number::None => complain(
+    match asked(&rt, &stdin) {
+        Some(card) => read_and_answer(&rt, &mut stdin, card),
+        None => complain(
             &rt,
             "why: called as 'why CARD < FILE': CARD is a card's number, FILE a step book or a desk's words\n",
         ),

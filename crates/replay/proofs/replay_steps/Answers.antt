@@ -1,5 +1,5 @@
 -- `replay::replay_steps` meets its contract. The loop's invariant: i steps are taken, and the words and the print are on the way (`Going`)
--- to what all of them leave. The measure is what is left of the steps. Assumes nothing.
+-- to what all of them leave. Assumes nothing.
 use Prim.Native.Nat.{ℕ, ◌+◌, ◌*◌}
 use mathlib.Core.Path.{refl, ap}
 use native.Mathlib.Omega.{arith}

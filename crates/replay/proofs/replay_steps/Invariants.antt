@@ -1,6 +1,6 @@
 -- `replay::replay_steps` meets its contract. The loop's invariant: i steps are taken, and the words and the print are on the way (`Going`)
--- to what all of them leave. The measure is what is left of the steps. Assumes nothing.
-use Prim.Native.Nat.{◌-◌, ◌≤◌}
+-- to what all of them leave. Assumes nothing.
+use Prim.Native.Nat.{◌≤◌}
 use mathlib.Core.Path.{◌≡◌}
 use lib.ListN.{length}
 use Rattle.replay.proofs.Turns.{Going}
@@ -12,6 +12,3 @@ invariant-loop-i l =
     × (length l.words ≡ length l.initial.words)
     × (length l.out ≡ length l.initial.out)
     × Going l.count l.i l.first l.start l.bytes l.initial.words l.initial.out l.words l.out l.at l.reachable
-
-abbrev pub decreases-loop-i : goal.decreases-loop-i
-decreases-loop-i l = l.count - l.i

@@ -1,5 +1,4 @@
--- `reading::put_words` meets its contract. The loop's invariant: the first i words are there (`Filled`). The measure: the words that are left.
--- Assumes nothing.
+-- `reading::put_words` meets its contract. The loop's invariant: the first i words are there (`Filled`). Assumes nothing.
 use mathlib.Core.Path.{refl}
 use native.Mathlib.Omega.{arith}
 use lib.ListN.{length-set}

@@ -1,5 +1,5 @@
 -- `replay::end::take_steps` meets its contract. The loop's invariant: i steps are taken, and the words are on the way (`Towards`) to what
--- all of them leave. The measure is what is left of the steps. Assumes nothing.
+-- all of them leave. Assumes nothing.
 use Prim.Native.Nat.{ℕ, ◌+◌, ◌*◌}
 use mathlib.Core.Path.{refl, ap, ◌∙◌}
 use native.Mathlib.Omega.{arith}
@@ -17,10 +17,10 @@ loop-i-preserved c =
     let a = c.args in
     let next = c.step_at-step.ensures.0 ∙ ap (λ (n : ℕ). step_at a.bytes.now (a.first + 12 * n)) c.wide.ensures.0 in
     let towards = c.loop-i.invariant.2 in
-    let stepped = c.step_known.ensures in (
+    let stepped = c.take_step-answer.ensures in (
       omega arith,
       search rules,
-      towards-on _ _ _ _ _ _ _ (omega arith) next _ towards stepped.sound (after_is _ towards.sound _ _ _ _ stepped),
+      towards-on _ _ _ _ _ _ _ (omega arith) next _ towards stepped.sound (after_is _ towards.sound _ _ _ stepped),
     )
 
 pub returns : goal.returns
