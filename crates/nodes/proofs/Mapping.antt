@@ -1,7 +1,7 @@
 -- A loop that changes each node by a function: what holds at its head, where it starts, after a turn and where it ends. Assumes nothing.
 use Prim.Native.Nat.{ℕ, ◌+◌, ◌≤◌, ◌<◌}
 use mathlib.Core.List.{List, map}
-use mathlib.Core.Path.{◌≡◌, refl, ap, ◌∙◌}
+use mathlib.Core.Path.{◌≡◌, ap, ◌∙◌}
 use native.Mathlib.Omega.{arith}
 use native.Mathlib.Numerals.{add-one}
 use lib.ListN.{get_or, set}
@@ -16,9 +16,6 @@ pub record Mapping (f : Node → Node) (m : ℕ) (r₀ r : List ℕ) (i : ℕ) :
   pub part : Part m r
   pub low : i ≤ m
   pub nodes : nodes_in m r ≡ mapped_to f i (nodes_in m r₀)
-
-pub starts : {f : Node → Node} {m : ℕ} {r : List ℕ} → Part m r → Mapping f m r r 0
-starts h = record { part = h; low = omega arith; nodes = refl }
 
 module _ {f : Node → Node} {m : ℕ} {r₀ r : List ℕ} {i : ℕ} (h : Mapping f m r₀ r i) where
   pub turn : {r' : List ℕ} {n : Node} → i < m → n ≡ f (node_in m r i) → r' ≡ with_node m r i n → Mapping f m r₀ r' (i + 1)

@@ -1,15 +1,15 @@
 -- A loop over the nodes that keeps whether all so far pass a test: what holds at its head, where it starts, after a turn and where it
 -- ends. Assumes nothing.
-use Prim.Native.Nat.{ℕ, ◌+◌, ◌≤◌, ◌<◌}
-use mathlib.Core.Bool.{Bool, true, ◌&&◌}
+use Prim.Native.Nat.{ℕ, ◌≤◌}
+use mathlib.Core.Bool.{Bool}
 use mathlib.Core.List.{List}
 use mathlib.Core.Path.{◌≡◌}
 use native.Mathlib.Omega.{arith}
 use Rattle.lists.specs.Tests.{every}
-use Rattle.lists.proofs.Tested.{Tested, tested-none, tested-more, tested-all}
-use Rattle.model.specs.State.{Node, free_node}
+use Rattle.lists.proofs.Tested.{Tested, tested-all}
+use Rattle.model.specs.State.{Node}
 use Rattle.layout.specs.Nodes.{nodes_in}
-use Rattle.nodes.specs.Part.{node_in, Part}
+use Rattle.nodes.specs.Part.{Part}
 use Rattle.nodes.proofs.Words.{nodes-length}
 
 -- the first i nodes are tested, and ok says whether all of those pass
@@ -18,17 +18,6 @@ pub record Passing (f : Node → Bool) (m : ℕ) (r : List ℕ) (i : ℕ) (ok : 
   pub low : i ≤ m
   pub tested : Tested f (nodes_in m r) i ok
 
-pub starts : {f : Node → Bool} {m : ℕ} {r : List ℕ} → Part m r → Passing f m r 0 true
-starts h = record { part = h; low = omega arith; tested = tested-none }
-
 module _ {f : Node → Bool} {m : ℕ} {r : List ℕ} {i : ℕ} {ok : Bool} (h : Passing f m r i ok) where
-  pub turn : {q : Bool} → i < m → q ≡ f (node_in m r i) → Passing f m r (i + 1) (ok && q)
-  turn l e =
-      record {
-        part = h.part;
-        low = omega arith;
-        tested = tested-more free_node h.tested (rw (nodes-length m r) l) e;
-      }
-
   pub ends : m ≤ i → ok ≡ every f (nodes_in m r)
   ends l = tested-all h.tested (omega (arith, nodes-length m r, h.low))

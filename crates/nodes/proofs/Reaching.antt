@@ -13,7 +13,7 @@ use Rattle.lists.proofs.Turns.{one-most}
 use Rattle.lists.proofs.Past.{past_more, past-none}
 use Rattle.model.specs.State.{Node}
 use Rattle.layout.specs.Nodes.{nodes_in}
-use Rattle.nodes.specs.Part.{node_in, Part}
+use Rattle.nodes.specs.Part.{node_in}
 use Rattle.nodes.specs.Portions.{Reached}
 use Rattle.nodes.proofs.Counting as counting
 
@@ -22,15 +22,6 @@ pub record Reaching (f : Node → Bool) (m : ℕ) (r : List ℕ) (limit from fou
   pub counted : counting.Counting f m r from found i
   pub most : found ≤ limit
   pub rest : past_from f (limit - found) i (drop i (nodes_in m r)) ≡ past_from f limit from (drop from (nodes_in m r))
-
-pub starts : {f : Node → Bool} {m : ℕ} {r : List ℕ} {limit from : ℕ} → Part m r → from ≤ m → Reaching f m r limit from 0 from
-starts {f} {m} {r} {limit} {from} h l =
-    let all : limit - 0 ≡ limit = omega arith in
-    record {
-      counted = counting.starts h l;
-      most = omega arith;
-      rest = ap (λ (n : ℕ). past_from f n from (drop from (nodes_in m r))) all;
-    }
 
 module _ {f : Node → Bool} {m : ℕ} {r : List ℕ} {limit from found i : ℕ} (h : Reaching f m r limit from found i) where
   -- one more, where the limit is not reached
