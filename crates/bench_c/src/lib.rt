@@ -4,7 +4,7 @@
 ghost use Rattle.std.specs.Prelude.{◌≡◌};
 ghost use Rattle.layout.specs.Words.{well_formed};
 ghost use Rattle.qsense.specs.Calls.{reachable_words};
-ghost use Rattle.answers.specs.Values.{reply_of};
+ghost use Rattle.qsense.specs.Values.{answer_reply};
 
 use answers::Answer;
 
@@ -19,11 +19,7 @@ pub extern "C" fn bench_well_formed(words: &[u32]) -> bool
 // How many nodes are Reachable, by a check and then a count.
 #[unsafe(no_mangle)]
 pub extern "C" fn bench_reachable_in_two(words: &[u32]) -> Answer
-    ensures { reply_of result words.now ≡ reachable_words words.now }
+    ensures { answer_reply result words.now ≡ reachable_words words.now }
 {
-    let counted = qsense::two_passes::reachable(words);
-    Answer {
-        refusal: counted.refusal,
-        value: counted.value,
-    }
+    qsense::two_passes::reachable(words).into()
 }

@@ -8,15 +8,16 @@ use native.Mathlib.Omega.{arith}
 use native.Mathlib.Nat.{add-zero}
 use lib.ListN.{length, set, take, drop, length-set}
 use lib.Seq.{take_all, drop-drop, get_or-take, get_or-drop}
+use Rattle.std.specs.Prelude.{Result}
+use Rattle.refusals.specs.declared.Refusal.{Refusal}
+use Rattle.answers.specs.declared.Answer.{Answer}
+use Rattle.answers.specs.Values.{answer_of}
 use Rattle.lists.proofs.RowParts.{take-sets}
 use Rattle.model.specs.State.{Step}
 use Rattle.layout.specs.Shape.{word, step_width, answer_width}
 use Rattle.layout.specs.Words.{well_formed}
 use Rattle.qsense.specs.Calls.{Reply, step_words, run_words}
-use Rattle.qsense.specs.Values.{Stepped}
-use Rattle.layout.specs.Pairs.{low_in, high_in}
-use Rattle.domain.specs.Effects.{given}
-use Rattle.qsense.proofs.Checked.{unpaired}
+use Rattle.qsense.specs.Values.{answer_reply, Stepped}
 use Rattle.qsense.specs.Runs.{steps_in, answers_of, step_in, Taken, RunOn}
 
 -- the steps from the i-th to the last of n
@@ -49,11 +50,11 @@ left-next n i steps h =
     let f : step_width * i + step_width ≡ step_width * (i + 1) = omega arith in
     rw (e, drop-drop, f, step_is)
 
--- of a step whose answer is one number, the i-th answer by its two words
-pub taken : (b : Bool) (s : Step) (i n : ℕ) (ws rs : List ℕ) {r v : ℕ} {ws' : List ℕ} → r ≡ low_in n → v ≡ high_in n
-    → Stepped b s ws n ws' → Taken b s i ws rs ws' (set (set rs (answer_width * i + 0) r) (answer_width * i + 1) v)
-taken b s i n ws rs p q h =
-    let x = unpaired n p q h.reply in
+-- of a step that is taken, the i-th answer by its two numbers
+pub taken : (b : Bool) (s : Step) (i : ℕ) (ws rs : List ℕ) {r : Result ℕ Refusal} {a : Answer} {ws' : List ℕ} → a ≡ answer_of r
+    → Stepped b s ws r ws' → Taken b s i ws rs ws' (set (set rs (answer_width * i + 0) a.refusal) (answer_width * i + 1) a.value)
+taken b s i ws rs {a = a} {ws' = ws'} e h =
+    let x : answer_reply a ws' ≡ step_words ws s = ap (λ (y : Answer). answer_reply y ws') e ∙ h.reply in
     record {
       words = ap (λ (y : Reply). y.words) x;
       answers = λ t. set (set rs (add-zero (answer_width * i) t) (x t).refusal) (add-one (answer_width * i) t) (x t).value;
@@ -99,8 +100,3 @@ going_end b n i steps ws₀ rs₀ ws rs e l g =
       sym (take_all (answer_width * i) rs (omega (arith, g.long))) ∙ sym (append-nil (take (answer_width * i) rs))
           ∙ sym (ap (λ (ss : List Step). take (answer_width * i) rs ++ answers_of ws ss) none) ∙ g.answers,
     )
-
--- a list of one step
-pub one-step : (ws ws' rs : List ℕ) (kind p h c guest : ℕ) → RunOn 1 ws (kind ∷ p ∷ h ∷ c ∷ guest ∷ []) ws' rs
-    → record { refusal = word rs 0; value = word rs 1; words = ws' } ≡ step_words ws (given kind p h c guest)
-one-step ws ws' rs kind p h c guest ran = λ t. record { refusal = word (ran.1 t) 0; value = word (ran.1 t) 1; words = ran.0 t }

@@ -55,10 +55,13 @@ ran_of taken ws answers = record { taken = taken; words = ws; answers = answers 
 
 -- ---- one turn
 
+-- a list has words for a step i
+abbrev pub HoldsStep : ℕ → List ℕ → Type 0
+HoldsStep i steps = step_width * i + step_width ≤ length steps
+
 -- both lists have words for a step i and its answer
 abbrev pub HoldsTurn : ℕ → List ℕ → List ℕ → Type 0
-HoldsTurn i steps answers =
-    (step_width * i + step_width ≤ length steps) × (answer_width * i + answer_width ≤ length answers)
+HoldsTurn i steps answers = HoldsStep i steps × (answer_width * i + answer_width ≤ length answers)
 
 -- step s is taken on words ws, its answer is the i-th, and the words are as good as they were
 pub record Taken (b : Bool) (s : Step) (i : ℕ) (ws rs ws' rs' : List ℕ) : Type 0 where

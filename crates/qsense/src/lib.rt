@@ -6,60 +6,34 @@ mod runs;
 pub mod two_passes;
 
 ghost use Rattle.std.specs.Prelude.{◌≡◌};
-ghost use Rattle.layout.specs.Values.{params_value};
+ghost use Rattle.layout.specs.Values.{params_value, step_value};
 ghost use Rattle.layout.specs.Ranges.{length_for};
 ghost use Rattle.qsense.specs.Calls.{make_words, reachable_words, portion_words, step_words, why_words};
-ghost use Rattle.domain.specs.Effects.{given};
 ghost use Rattle.waiting.specs.Values.{explained_value};
-ghost use Rattle.qsense.specs.Values.{reply_of, portion_reply_of};
+ghost use Rattle.qsense.specs.Values.{reply_of, reply_of_none, portion_reply_of};
 ghost use Rattle.qsense.specs.Runs.{ran_of, run_into};
 
 use layout::words::{answer_word, step_word};
-use layout::{HazardId, NodeId, Params, ProcessId};
-use waiting::Explained;
-
-// refusal: the number of the first question with the answer no, 0 for accepted.
-#[derive(Clone, Copy)]
-pub struct Answer {
-    pub refusal: u32,
-    pub value: u32,
-}
-
-// refusal: as of a step; where it is not 0, every other number is 0. freed: nodes freed. examined: the Retired nodes of the process that were
-// met. next: the node to go on from. left: its Retired nodes from there on.
-#[derive(Clone, Copy)]
-pub struct Portioned {
-    pub refusal: u32,
-    pub freed: u32,
-    pub examined: u32,
-    pub next: u32,
-    pub left: u32,
-}
+use layout::{NodeId, Params, ProcessId, Step};
+use refusals::Refusal;
+use retire::portion::Portion;
+use waiting::Why;
 
 // Makes a fresh domain of the words. Refused with 1 unless every parameter is in its range, then with 2 unless the words are exactly as
 // many as such a domain takes; refused, it writes nothing.
-pub fn make(words: &mut [u32], params: Params) -> Answer
-    ensures { reply_of result words.new ≡ make_words words.old (params_value params) }
+pub fn make(words: &mut [u32], params: Params) -> Result<(), Refusal>
+    ensures { reply_of_none result words.new ≡ make_words words.old (params_value params) }
 {
     if !layout::fresh::in_range(params) {
-        return Answer {
-            refusal: 1,
-            value: 0,
-        };
+        return Err(Refusal::ParameterOutOfRange);
     }
     if words.len()
         != layout::wide(layout::fresh::length(params.processes, params.hazards, params.nodes))
     {
-        return Answer {
-            refusal: 2,
-            value: 0,
-        };
+        return Err(Refusal::WordCount);
     }
     layout::fresh::write_fresh(words, params);
-    Answer {
-        refusal: 0,
-        value: 0,
-    }
+    Ok(())
 }
 
 // The words that a domain of N processes, K hazards a process and M nodes takes; 0 unless each is in its range.
@@ -70,72 +44,48 @@ pub fn length(n: u32, k: u32, m: u32) -> u32
 }
 
 // How many nodes are Reachable, in one pass over them. Refused with 3 unless the words are those of a well-formed domain.
-pub fn reachable(words: &[u32]) -> Answer
+pub fn reachable(words: &[u32]) -> Result<u32, Refusal>
     ensures { reply_of result words.now ≡ reachable_words words.now }
 {
-    let answer = wellformed::reachable(words);
-    Answer {
-        refusal: layout::low(answer),
-        value: layout::high(answer),
-    }
+    wellformed::reachable(words).ok_or(Refusal::Malformed)
 }
 
 // Why a node is still waiting, and which process is behind in epochs. Refused with 3 unless the words are those of a well-formed domain, then
 // with 7 unless the node is one of its nodes.
-pub fn why(words: &[u32], node: NodeId) -> Explained
+pub fn why(words: &[u32], node: NodeId) -> Result<Why, Refusal>
     ensures { explained_value result ≡ why_words words.now node.0 }
 {
     if !wellformed::well_formed(words) {
-        let malformed = wellformed::MALFORMED as u32;
-        return Explained::Refused(malformed);
+        return Err(Refusal::Malformed);
     }
     waiting::explain(words, node)
 }
 
 // A portion of a scan (kind 17) by a process, from a node on, that examines at most so many of its Retired nodes. Refused with 3 unless the words
 // are those of a well-formed domain, then as the step is; refused, nothing is written.
-pub fn portion(words: &mut [u32], process: ProcessId, start: NodeId, limit: u32) -> Portioned
+pub fn portion(
+    words: &mut [u32],
+    process: ProcessId,
+    start: NodeId,
+    limit: u32,
+) -> Result<Portion, Refusal>
     ensures { portion_reply_of result words.new ≡ portion_words words.old process.0 start.0 limit }
 {
     let good = wellformed::well_formed(words);
-    if !good {
-        return Portioned {
-            refusal: wellformed::MALFORMED as u32,
-            freed: 0,
-            examined: 0,
-            next: 0,
-            left: 0,
-        };
-    }
-    let x = steps::portion::portion(words, process, start, limit);
-    Portioned {
-        refusal: x.refusal,
-        freed: x.freed,
-        examined: x.examined,
-        next: x.next,
-        left: x.left,
+    if good {
+        steps::portion::portion(words, process, start, limit)
+    } else {
+        Err(Refusal::Malformed)
     }
 }
 
 // One step. Refused with 3 unless the words are those of a well-formed domain, then with the number of the first of the questions 4 to
-// 23 whose answer is no; refused, the value is 0 and nothing is written.
-pub fn step(
-    words: &mut [u32],
-    kind: u32,
-    process: ProcessId,
-    hazard: HazardId,
-    node: NodeId,
-    guest: u32,
-) -> Answer
-    ensures { reply_of result words.new ≡ step_words words.old (given kind process.0 hazard.0 node.0 guest) }
+// 23 whose answer is no; refused, nothing is written.
+pub fn step(words: &mut [u32], step: Step) -> Result<u32, Refusal>
+    ensures { reply_of result words.new ≡ step_words words.old (step_value step) }
 {
-    let steps = [kind, process.0, hazard.0, node.0, guest];
-    let mut answers = [0u32; answer_word::WIDTH];
-    runs::run_all(words, &steps, &mut answers, 1);
-    Answer {
-        refusal: answers[answer_word::REFUSAL],
-        value: answers[answer_word::VALUE],
-    }
+    let good = wellformed::well_formed(words);
+    runs::step_checked(words, good, step)
 }
 
 // Takes a list of steps, five words each, one after another, and writes their answers, two words each: the words are checked once, and

@@ -1,52 +1,55 @@
-// Steps one after another, on words that are checked once. One step is a list of one: so the dispatch over the kinds has one caller, this
-// loop, and the compiler folds it in.
-ghost use Rattle.std.specs.Prelude.{◌≡◌};
+// Steps one after another, on words that are checked once.
+ghost use Rattle.std.specs.Prelude.{◌≡◌, ◌<◌};
+ghost use Rattle.layout.specs.Values.{step_value};
 ghost use Rattle.layout.specs.Words.{well_formed};
-ghost use Rattle.domain.specs.Effects.{given};
 ghost use Rattle.qsense.specs.Values.{Stepped};
-ghost use Rattle.qsense.specs.Runs.{step_in, HoldsTurn, HoldsRun, Taken, RunOn};
+ghost use Rattle.qsense.specs.Runs.{step_in, HoldsStep, HoldsTurn, HoldsRun, Taken, RunOn};
 
+use answers::Answer;
 use layout::words::{answer_word, step_word};
-use layout::{HazardId, NodeId, ProcessId};
+use layout::{HazardId, NodeId, ProcessId, Step};
+use refusals::Refusal;
 
-// One step, on words of which it is known whether they are those of a well-formed domain. The answer is one number, the refusal its low
-// word and the value its high one: two fields would come back through memory.
-fn step_checked(
-    words: &mut [u32],
-    good: bool,
-    kind: u32,
-    process: ProcessId,
-    hazard: HazardId,
-    node: NodeId,
-    guest: u32,
-) -> usize
+// One step, on words of which it is known whether they are those of a well-formed domain. Folded into its callers, and the dispatch into it: as a
+// call it would bring the two numbers of the answer back through memory.
+#[inline(always)]
+pub fn step_checked(words: &mut [u32], good: bool, step: Step) -> Result<u32, Refusal>
     requires { good ≡ well_formed words.old }
-    ensures { Stepped good (given kind process.0 hazard.0 node.0 guest) words.old result words.new }
+    ensures { Stepped good (step_value step) words.old result words.new }
 {
     if !good {
-        return wellformed::MALFORMED;
+        return Err(Refusal::Malformed);
     }
-    steps::take_step(words, kind, process, hazard, node, guest)
+    steps::take_step(words, step)
+}
+
+// Step i of a list.
+#[inline(always)]
+fn step_at(steps: &[u32], i: usize) -> Step
+    requires { HoldsStep i steps.now }
+    ensures { step_value result ≡ step_in steps.now i }
+{
+    let at = step_word::WIDTH * i;
+    Step {
+        kind: steps[at + step_word::KIND],
+        process: ProcessId(steps[at + step_word::PROCESS]),
+        hazard: HazardId(steps[at + step_word::HAZARD]),
+        node: NodeId(steps[at + step_word::NODE]),
+        guest: steps[at + step_word::GUEST],
+    }
 }
 
 // Takes step i of a list and writes its answer.
+#[inline(always)]
 fn run_step(words: &mut [u32], good: bool, steps: &[u32], answers: &mut [u32], i: usize)
     requires { (good ≡ well_formed words.old) × HoldsTurn i steps.now answers.old }
     ensures { Taken good (step_in steps.now i) i words.old answers.old words.new answers.new }
 {
-    let at = step_word::WIDTH * i;
-    let answer = step_checked(
-        words,
-        good,
-        steps[at + step_word::KIND],
-        ProcessId(steps[at + step_word::PROCESS]),
-        HazardId(steps[at + step_word::HAZARD]),
-        NodeId(steps[at + step_word::NODE]),
-        steps[at + step_word::GUEST],
-    );
+    let step = step_at(steps, i);
+    let answer = Answer::from(step_checked(words, good, step));
     let to = answer_word::WIDTH * i;
-    answers[to + answer_word::REFUSAL] = layout::low(answer);
-    answers[to + answer_word::VALUE] = layout::high(answer);
+    answers[to + answer_word::REFUSAL] = answer.refusal;
+    answers[to + answer_word::VALUE] = answer.value;
 }
 
 // Takes a list of so many steps on any words, which are checked once, and writes their answers.
@@ -55,9 +58,7 @@ pub fn run_all(words: &mut [u32], steps: &[u32], answers: &mut [u32], count: usi
     ensures { RunOn count words.old steps.now words.new answers.new }
 {
     let good = wellformed::well_formed(words);
-    let mut i = 0;
-    while i < count {
+    for i in 0..count {
         run_step(words, good, steps, answers, i);
-        i += 1;
     }
 }

@@ -4,22 +4,16 @@ ghost use Rattle.std.specs.Prelude.{◌≡◌, true};
 ghost use Rattle.qsense.specs.Calls.{reachable_words};
 ghost use Rattle.qsense.specs.Values.{reply_of};
 
-use crate::Answer;
+use refusals::Refusal;
 
 // How many nodes are Reachable. Refused with 3 unless the words are those of a well-formed domain.
-pub fn reachable(words: &[u32]) -> Answer
+pub fn reachable(words: &[u32]) -> Result<u32, Refusal>
     ensures { reply_of result words.now ≡ reachable_words words.now }
 {
     if !wellformed::well_formed(words) {
-        return Answer {
-            refusal: wellformed::MALFORMED as u32,
-            value: 0,
-        };
+        return Err(Refusal::Malformed);
     }
-    Answer {
-        refusal: 0,
-        value: domain::reachable_count(words),
-    }
+    Ok(domain::reachable_count(words))
 }
 
 // Do one pass and two answer the same? They do, on every slice: nobody need call this.
@@ -28,5 +22,5 @@ pub fn agree(words: &[u32]) -> bool
 {
     let one = crate::reachable(words);
     let two = reachable(words);
-    (one.refusal == two.refusal) & (one.value == two.value)
+    one == two
 }

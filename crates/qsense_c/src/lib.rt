@@ -5,17 +5,19 @@ ghost use Rattle.std.specs.Prelude.{◌≡◌};
 ghost use Rattle.model.specs.Params.{params_of};
 ghost use Rattle.layout.specs.Ranges.{length_for};
 ghost use Rattle.model.specs.Why.{Told, NotAsked};
-ghost use Rattle.waiting.specs.Values.{reason_value, why_value};
+ghost use Rattle.waiting.specs.Values.{reason_value, why_value, explained_value};
 ghost use Rattle.qsense.specs.Calls.{make_words, step_words, portion_words, reachable_words, why_words};
 ghost use Rattle.qsense.specs.Numbers.{told, numbers_of};
 ghost use Rattle.qsense.specs.Runs.{ran_of, run_into};
 ghost use Rattle.domain.specs.Effects.{given};
-ghost use Rattle.answers.specs.Values.{reply_of};
-ghost use Rattle.qsense_c.specs.Values.{portion_reply_of, numbers_in};
+ghost use Rattle.qsense.specs.Values.{answer_reply};
+ghost use Rattle.qsense_c.specs.Values.{portioned_of, portion_reply_of, numbers_in};
 
 use answers::Answer;
-use layout::{HazardId, NodeId, Params, ProcessId};
-use waiting::{Behind, Explained, Reason};
+use layout::{HazardId, NodeId, Params, ProcessId, Step};
+use refusals::Refusal;
+use retire::portion::Portion;
+use waiting::{Behind, Reason};
 
 // The words that a domain takes; 0 unless N, K and M are in their ranges.
 #[unsafe(no_mangle)]
@@ -37,24 +39,18 @@ pub extern "C" fn qsense_make(
     c: u32,
     e: u32,
 ) -> Answer
-    ensures { reply_of result words.new ≡ make_words words.old (params_of n k m t q c e) }
+    ensures { answer_reply result words.new ≡ make_words words.old (params_of n k m t q c e) }
 {
-    let made = qsense::make(
-        words,
-        Params {
-            processes: n,
-            hazards: k,
-            nodes: m,
-            visibility: t,
-            quiescence: q,
-            fallback: c,
-            lateness: e,
-        },
-    );
-    Answer {
-        refusal: made.refusal,
-        value: made.value,
-    }
+    let params = Params {
+        processes: n,
+        hazards: k,
+        nodes: m,
+        visibility: t,
+        quiescence: q,
+        fallback: c,
+        lateness: e,
+    };
+    qsense::make(words, params).into()
 }
 
 // One step.
@@ -67,20 +63,16 @@ pub extern "C" fn qsense_step(
     node: u32,
     guest: u32,
 ) -> Answer
-    ensures { reply_of result words.new ≡ step_words words.old (given kind process hazard node guest) }
+    ensures { answer_reply result words.new ≡ step_words words.old (given kind process hazard node guest) }
 {
-    let stepped = qsense::step(
-        words,
+    let step = Step {
         kind,
-        ProcessId(process),
-        HazardId(hazard),
-        NodeId(node),
+        process: ProcessId(process),
+        hazard: HazardId(hazard),
+        node: NodeId(node),
         guest,
-    );
-    Answer {
-        refusal: stepped.refusal,
-        value: stepped.value,
-    }
+    };
+    qsense::step(words, step).into()
 }
 
 // A list of steps.
@@ -104,6 +96,29 @@ pub struct Portioned {
     pub left: u32,
 }
 
+impl From<Result<Portion, Refusal>> for Portioned {
+    ghost from_gives = { λ r p. p ≡ portioned_of r };
+
+    fn from(answer: Result<Portion, Refusal>) -> Portioned {
+        match answer {
+            Ok(x) => Portioned {
+                refusal: 0,
+                freed: x.freed,
+                examined: x.examined,
+                next: x.next,
+                left: x.left,
+            },
+            Err(refusal) => Portioned {
+                refusal: u32::from(refusal),
+                freed: 0,
+                examined: 0,
+                next: 0,
+                left: 0,
+            },
+        }
+    }
+}
+
 // At most so many Retired nodes of a process, from one on, examined.
 #[unsafe(no_mangle)]
 pub extern "C" fn qsense_portion(
@@ -114,14 +129,7 @@ pub extern "C" fn qsense_portion(
 ) -> Portioned
     ensures { portion_reply_of result words.new ≡ portion_words words.old process start limit }
 {
-    let x = qsense::portion(words, ProcessId(process), NodeId(start), limit);
-    Portioned {
-        refusal: x.refusal,
-        freed: x.freed,
-        examined: x.examined,
-        next: x.next,
-        left: x.left,
-    }
+    qsense::portion(words, ProcessId(process), NodeId(start), limit).into()
 }
 
 // ---- the reachable count
@@ -129,13 +137,9 @@ pub extern "C" fn qsense_portion(
 // How many nodes are Reachable.
 #[unsafe(no_mangle)]
 pub extern "C" fn qsense_reachable(words: &[u32]) -> Answer
-    ensures { reply_of result words.now ≡ reachable_words words.now }
+    ensures { answer_reply result words.now ≡ reachable_words words.now }
 {
-    let counted = qsense::reachable(words);
-    Answer {
-        refusal: counted.refusal,
-        value: counted.value,
-    }
+    qsense::reachable(words).into()
 }
 
 // ---- why a node waits
@@ -155,57 +159,76 @@ pub struct Why {
     pub behind_process: u32,
 }
 
-// The numbers of a reason; who is behind is not asked.
-fn reason_numbers(reason: Reason) -> Why
-    ensures { numbers_in result ≡ told (reason_value reason) NotAsked }
-{
-    let mut why = Why {
-        refusal: 0,
-        answer: 4,
-        state: 0,
-        ticks: 0,
-        process: 0,
-        hazard: 0,
-        behind: 0,
-        behind_process: 0,
-    };
-    match reason {
-        Reason::NotRetired(state) => {
-            why.answer = 1;
-            why.state = state;
+const NOTHING: Why = Why {
+    refusal: 0,
+    answer: 0,
+    state: 0,
+    ticks: 0,
+    process: 0,
+    hazard: 0,
+    behind: 0,
+    behind_process: 0,
+};
+
+// Who is behind is not asked.
+impl From<Reason> for Why {
+    ghost from_gives = { λ r w. numbers_in w ≡ told (reason_value r) NotAsked };
+
+    fn from(reason: Reason) -> Why {
+        match reason {
+            Reason::NotRetired(state) => Why {
+                answer: 1,
+                state,
+                ..NOTHING
+            },
+            Reason::Young(ticks) => Why {
+                answer: 2,
+                ticks,
+                ..NOTHING
+            },
+            Reason::Visible(p, h) => Why {
+                answer: 3,
+                process: p.0,
+                hazard: h.0,
+                ..NOTHING
+            },
+            Reason::Ready => Why {
+                answer: 4,
+                ..NOTHING
+            },
         }
-        Reason::Young(ticks) => {
-            why.answer = 2;
-            why.ticks = ticks;
-        }
-        Reason::Visible(p, h) => {
-            why.answer = 3;
-            why.process = p.0;
-            why.hazard = h.0;
-        }
-        Reason::Ready => {}
     }
-    why
 }
 
-// The numbers of an answer, with those of who is behind.
-fn numbers(told: waiting::Why) -> Why
-    ensures { numbers_in result ≡ numbers_of (Told (why_value told)) }
-{
-    let reason = told.reason;
-    let behind = told.behind;
-    let mut why = reason_numbers(reason);
-    match behind {
-        Behind::NotAsked => {}
-        Behind::Nobody => {
-            why.behind = 1;
-        }
-        Behind::Lagging(p) => {
-            why.behind = 2;
-            why.behind_process = p.0;
+impl From<waiting::Why> for Why {
+    ghost from_gives = { λ a w. numbers_in w ≡ numbers_of (Told (why_value a)) };
+
+    fn from(told: waiting::Why) -> Why {
+        let why = Why::from(told.reason);
+        match told.behind {
+            Behind::NotAsked => why,
+            Behind::Nobody => Why { behind: 1, ..why },
+            Behind::Lagging(p) => Why {
+                behind: 2,
+                behind_process: p.0,
+                ..why
+            },
         }
     }
-    why
+}
+
+impl From<Result<waiting::Why, Refusal>> for Why {
+    ghost from_gives = { λ r w. numbers_in w ≡ numbers_of (explained_value r) };
+
+    fn from(explained: Result<waiting::Why, Refusal>) -> Why {
+        match explained {
+            Ok(told) => Why::from(told),
+            Err(refusal) => Why {
+                refusal: u32::from(refusal),
+                ..NOTHING
+            },
+        }
+    }
 }
 
 // Why a node is still waiting.
@@ -213,18 +236,5 @@ fn numbers(told: waiting::Why) -> Why
 pub extern "C" fn qsense_why(words: &[u32], node: u32) -> Why
     ensures { numbers_in result ≡ numbers_of (why_words words.now node) }
 {
-    let explained = qsense::why(words, NodeId(node));
-    match explained {
-        Explained::Refused(refusal) => Why {
-            refusal,
-            answer: 0,
-            state: 0,
-            ticks: 0,
-            process: 0,
-            hazard: 0,
-            behind: 0,
-            behind_process: 0,
-        },
-        Explained::Told(told) => numbers(told),
-    }
+    qsense::why(words, NodeId(node)).into()
 }

@@ -3,12 +3,15 @@ use Prim.Native.Nat.{ℕ}
 use mathlib.Core.Bool.{Bool, true, false}
 use mathlib.Core.List.{List}
 use mathlib.Core.Path.{◌≡◌, ◌∙◌}
+use Rattle.std.specs.Prelude.{Result}
+use Rattle.refusals.specs.declared.Refusal.{Refusal}
 use Rattle.model.specs.Machine.{portioned}
 use Rattle.layout.specs.Encode.{decode}
 use Rattle.layout.specs.Words.{well_formed}
+use Rattle.retire.specs.declared.portion.Portion.{Portion}
 use Rattle.steps.specs.Portioned.{Portions}
-use Rattle.steps.specs.declared.portion.Portioned.{Portioned}
 use Rattle.qsense.specs.Calls.{declining, portion_through, portion_words}
+use Rattle.qsense.specs.Values.{portion_reply_of}
 use Rattle.qsense.proofs.Checked.{checked}
 use Rattle.qsense.proofs.portion.Goals as goal
 
@@ -21,8 +24,8 @@ module _ (ws : List ℕ) (p a l : ℕ) {b : Bool} (e : b ≡ well_formed ws) whe
   unfolding portion_words
   asked t = rw (← e, t)
 
-  done : b ≡ true → {r : Portioned} {ws' : List ℕ} → Portions (portioned (decode ws) p a l) r ws'
-      → record { refusal = r.refusal; freed = r.freed; examined = r.examined; next = r.next; left = r.left; words = ws' } ≡ portion_words ws p a l
+  done : b ≡ true → {r : Result Portion Refusal} {ws' : List ℕ} → Portions (portioned (decode ws) p a l) r ws'
+      → portion_reply_of r ws' ≡ portion_words ws p a l
   done t x =
       (λ i. record {
         refusal = x.refusal i;
@@ -34,16 +37,15 @@ module _ (ws : List ℕ) (p a l : ℕ) {b : Bool} (e : b ≡ well_formed ws) whe
       })
       ∙ asked t
 
-pub returns-then-not-good : goal.returns-then-not-good
-returns-then-not-good c =
-    let a = c.args in
-    malformed a.words.now a.process.0 a.start.0 a.limit c.well_formed-good.ensures (c.if-not-good.true)
+pub portion-requires : goal.portion-requires
+portion-requires c = checked c.args.words.now _ c.well_formed-good.ensures c.if-good.true
 
-pub portion-x-requires : goal.portion-x-requires
-portion-x-requires c = checked c.args.words.now _ c.well_formed-good.ensures (c.if-not-good.false)
-
-pub returns : goal.returns
-returns c =
+pub returns-then-good : goal.returns-then-good
+returns-then-good c =
     let a = c.args in
-    done a.words.now a.process.0 a.start.0 a.limit c.well_formed-good.ensures
-    (c.if-not-good.false) c.portion-x.ensures
+    done a.words.now a.process.0 a.start.0 a.limit c.well_formed-good.ensures c.if-good.true c.portion.ensures
+
+pub returns-else-good : goal.returns-else-good
+returns-else-good c =
+    let a = c.args in
+    malformed a.words.now a.process.0 a.start.0 a.limit c.well_formed-good.ensures c.if-good.false

@@ -1,8 +1,10 @@
--- `qsense::reachable` meets its contract: the two words of the one pass's answer. Assumes nothing.
-use Rattle.qsense.proofs.Checked.{answered, unpaired}
+-- `qsense::reachable` meets its contract: what the one pass over the words answers. Assumes nothing.
+use mathlib.Core.Path.{ap, ◌∙◌}
+use Rattle.qsense.specs.Values.{reply_of}
+use Rattle.qsense.proofs.Checked.{answered}
 use Rattle.qsense.proofs.reachable.Goals as goal
 
 pub returns : goal.returns
 returns c =
-    unpaired c.reachable-answer.result c.low.ensures c.high.ensures
-    (answered c.args.words.now c.reachable-answer.ensures)
+    let ws = c.args.words.now in
+    ap (λ r. reply_of r ws) c.ok_or.ensures.value ∙ answered ws c.reachable.ensures
