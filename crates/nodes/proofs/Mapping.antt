@@ -1,4 +1,4 @@
--- A loop that changes each node by a function: what holds at its head, where it starts, after a turn and where it ends. Assumes nothing.
+-- A loop that changes each node by a function: what holds at its head, after a turn and where it ends. Assumes nothing.
 use Prim.Native.Nat.{ℕ, ◌+◌, ◌≤◌, ◌<◌}
 use mathlib.Core.List.{List, map}
 use mathlib.Core.Path.{◌≡◌, ap, ◌∙◌}

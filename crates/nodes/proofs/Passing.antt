@@ -1,5 +1,5 @@
--- A loop over the nodes that keeps whether all so far pass a test: what holds at its head, where it starts, after a turn and where it
--- ends. Assumes nothing.
+-- A loop over the nodes that keeps whether all so far pass a test: what holds at its head and where it ends.
+-- Assumes nothing.
 use Prim.Native.Nat.{ℕ, ◌≤◌}
 use mathlib.Core.Bool.{Bool}
 use mathlib.Core.List.{List}

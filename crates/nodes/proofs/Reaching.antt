@@ -1,5 +1,5 @@
--- A loop that goes over the nodes past a number of those that pass a test: what holds at its head, where it starts, after a turn and at
--- its two ends. Assumes nothing.
+-- A loop that goes over the nodes past a number of those that pass a test: what holds at its head, after a turn and at its
+-- two ends. Assumes nothing.
 use Prim.Native.Nat.{ℕ, suc, ◌+◌, ◌-◌, ◌≤◌, ◌<◌}
 use mathlib.Core.Bool.{Bool, cond}
 use mathlib.Core.List.{List}
