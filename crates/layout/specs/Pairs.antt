@@ -1,5 +1,5 @@
--- Two words as one number, and the words of such a number. Assumes nothing.
-use Rattle.std.specs.Prelude.{ℕ, ◌+◌, ◌*◌, ◌/◌, ◌%◌}
+-- Two words as one number. Assumes nothing.
+use Rattle.std.specs.Prelude.{ℕ, ◌+◌, ◌*◌}
 
 -- how many numbers a word holds
 abbrev pub word_range : ℕ
@@ -7,9 +7,3 @@ word_range = 4294967296
 
 abbrev pub paired : ℕ → ℕ → ℕ
 paired low high = low + high * word_range
-
-abbrev pub low_in : ℕ → ℕ
-low_in n = n % word_range
-
-abbrev pub high_in : ℕ → ℕ
-high_in n = n / word_range

@@ -9,7 +9,7 @@ ghost use Rattle.std.specs.Prelude.{◌≡◌, ◌<◌, ◌≤◌};
 ghost use Rattle.model.specs.Params.{most_processes, most_hazards, most_nodes};
 ghost use Rattle.layout.specs.Shape.{process_width, process_start};
 ghost use Rattle.layout.specs.Encode.{shape};
-ghost use Rattle.layout.specs.Pairs.{word_range, paired, low_in, high_in};
+ghost use Rattle.layout.specs.Pairs.{word_range, paired};
 
 use words::{hazard_word, head_word, lead_word, most, node_word};
 
@@ -84,19 +84,6 @@ pub fn pair(low: u32, high: u32) -> usize
     ensures { (result ≡ paired low high) × (low < word_range) }
 {
     wide(low) + wide(high) * 4294967296
-}
-
-// The first of two words that are one number, and the second.
-pub fn low(pair: usize) -> u32
-    ensures { result ≡ low_in pair }
-{
-    (pair % 4294967296) as u32
-}
-
-pub fn high(pair: usize) -> u32
-    ensures { result ≡ high_in pair }
-{
-    (pair / 4294967296) as u32
 }
 
 // The words of a process with k hazards.
