@@ -3,13 +3,10 @@ use Prim.Native.Nat.{ℕ}
 use mathlib.Core.Path.{sym, ap}
 use native.Mathlib.Omega.{arith}
 use lib.Dec.{eqb}
-use Rattle.lists.proofs.Tested.{tested-none, tested-more, tested-all}
+use Rattle.lists.proofs.Tested.{tested-more, tested-all}
 use Rattle.model.specs.State.{empty_hazard}
 use Rattle.stretch.proofs.Words.{hazard-word, hazards-length}
 use Rattle.stretch.proofs.unassigned.Goals as goal
-
-pub loop-h-init : goal.loop-h-init
-loop-h-init c = tested-none
 
 pub loop-h-preserved : goal.loop-h-preserved
 loop-h-preserved c =

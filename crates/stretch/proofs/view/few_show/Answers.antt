@@ -1,11 +1,7 @@
 -- `view::few_show` meets its contract. The invariant: found says whether one of the first h hazards shows the node. Assumes nothing.
-use Prim.Native.Nat.{ℕ}
-use mathlib.Core.Bool.{not}
-use mathlib.Core.Path.{◌≡◌, refl, ap, ◌∙◌}
-use native.Mathlib.Omega.{arith}
+use mathlib.Core.Path.{refl}
 use Rattle.lists.specs.Upto.{all_upto}
 use Rattle.stretch.specs.Stretch.{held_in}
-use Rattle.stretch.specs.View.{hide}
 use Rattle.stretch.proofs.Showing.{hide-more}
 use Rattle.stretch.proofs.view.few_show.Goals as goal
 
@@ -18,10 +14,3 @@ loop-h-preserved c =
     let a = c.args in
     let l = c.loop-h in
     hide-more (held_in a.at a.row.now) a.v l.h _ _ l.invariant c.shows_at-found.ensures
-
-pub returns : goal.returns
-returns c =
-    let a = c.args in
-    let l = c.loop-h in
-    let e : l.h ≡ a.at.k = omega arith in
-    l.invariant ∙ ap (λ (n : ℕ). not (hide (held_in a.at a.row.now) a.v 0 n)) e

@@ -2,13 +2,10 @@
 use Prim.Native.Nat.{◌+◌, ◌*◌}
 use mathlib.Core.Path.{◌∙◌}
 use lib.ListN.{length-set}
-use Rattle.stretch.proofs.Viewed.{overlay-starts, overlay-turn, overlay-ends}
+use Rattle.stretch.proofs.Viewed.{overlay-turn}
 use Rattle.stretch.proofs.Stores.{target_at, stored_at, aims}
 use native.Mathlib.Omega.{arith}
 use Rattle.stretch.proofs.view.overlay.Goals as goal
-
-pub loop-e-init : goal.loop-e-init
-loop-e-init c = (omega arith, c.requires.1, overlay-starts)
 
 pub bounds-nodes-h : goal.bounds-nodes-h
 bounds-nodes-h c =
@@ -26,8 +23,3 @@ loop-e-preserved c =
     let target = c.wide-h.ensures.0 ∙ target_at _ _ h.words e (omega arith) (from + 0) (omega (arith, h.stores)) in
     let stored = stored_at _ _ h.words e (omega arith) (from + 1) (omega (arith, h.stores)) in
     (inv.0, simp length-set inv.1, overlay-turn inv.2 (omega arith) _ _ target stored)
-
-pub returns : goal.returns
-returns c =
-    let inv = c.loop-e.invariant in
-    overlay-ends inv.2 (omega arith)

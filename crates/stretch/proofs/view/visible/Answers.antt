@@ -8,9 +8,6 @@ use Rattle.stretch.proofs.Viewed.{shown-more, shown-all}
 use native.Mathlib.Omega.{arith}
 use Rattle.stretch.proofs.view.visible.Goals as goal
 
-pub loop-h-init : goal.loop-h-init
-loop-h-init c = (c.requires.1, λ j l. absurd (omega arith))
-
 pub loop-h-preserved : goal.loop-h-preserved
 loop-h-preserved c =
     let at = c.args.at in
