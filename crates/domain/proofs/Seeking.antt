@@ -1,19 +1,24 @@
 -- A loop over the processes of a domain that looks for the first one that passes a test. Assumes nothing.
-use Prim.Native.Nat.{ℕ, ◌+◌, ◌<◌, ◌≤◌}
-use mathlib.Core.Bool.{Bool, true, false}
-use mathlib.Core.List.{List}
-use mathlib.Core.Path.{◌≡◌}
+use Prim.Native.Nat.{ℕ, suc, ◌+◌, ◌<◌, ◌≤◌}
+use mathlib.Core.Bool.{Bool, true, false, not, ◌&&◌, not-not}
+use mathlib.Core.List.{List, [], ◌∷◌}
+use mathlib.Core.Path.{◌≡◌, refl, ap, ◌∙◌}
 use native.Mathlib.Omega.{arith}
 use Rattle.std.specs.Prelude.{Some, None}
-use Rattle.lists.specs.Tests.{first_from}
-use Rattle.lists.proofs.First.{Seeking, seek-starts, seek-turn, seek_found, seek-ends}
-use Rattle.model.specs.State.{Process, no_process, process_of}
+use lib.ListN.{length}
+use lib.Dec.{ltb, eqb}
+use Rattle.std.specs.Option.{is_some}
+use Rattle.lists.specs.Tests.{implies, every, first_from}
+use Rattle.lists.proofs.First.{none_from, first_found, Seeking, seek-starts, seek-turn, seek_found, seek-ends}
+use Rattle.model.specs.State.{Process, Domain, no_process, process_of, in_epochs}
+use Rattle.model.specs.Epochs.{caught_up}
+use Rattle.model.specs.Why.{lags, laggard}
 use Rattle.layout.specs.Encode.{decode, params_in}
 use Rattle.layout.specs.Sound.{Sound}
 use Rattle.layout.specs.Values.{params_value}
 use Rattle.layout.specs.declared.Params.{Params}
 use Rattle.domain.specs.Found.{process_below}
-use Rattle.domain.proofs.Found.{found-at, found-none}
+use Rattle.domain.proofs.Found.{found-at, found-none, some-below}
 use Rattle.domain.proofs.ReadParams.{processes-length, processes-word}
 
 -- none of the first p of n processes passes
@@ -47,3 +52,24 @@ module _ {f : ℕ → Process → Bool} {ws : List ℕ} {n p : ℕ} (h : Looking
   look-ends l =
       found-none (λ q. record { 0 = q }) (seek-ends h.seeking (omega (arith, h.low, h.many, processes-length h.sound)))
       (omega (arith, h.many))
+
+-- ---- who is behind
+
+keeps-up : (a b : Bool) → not (a && not b) ≡ implies a b
+keeps-up true b = not-not b
+keeps-up false b = refl
+
+none-lags : (d : Domain) (i : ℕ) (ps : List Process)
+    → none_from (λ _ x. lags d x) i ps ≡ every (λ x. implies (in_epochs x) (eqb x.epoch d.epoch)) ps
+none-lags d i [] = refl
+none-lags d i (x ∷ xs) = λ t. keeps-up (in_epochs x) (eqb x.epoch d.epoch) t && none-lags d (suc i) xs t
+
+-- all have caught up where none lags
+pub none-behind : {ws : List ℕ} → Sound ws → not (is_some (process_below (params_in ws).processes (laggard (decode ws)))) ≡ caught_up (decode ws)
+none-behind {ws} s =
+    let d : Domain = decode ws in
+    let many : (params_in ws).processes ≡ 0 + length d.processes = omega (arith, processes-length s) in
+    ap not (some-below (λ q. record { 0 = q }) (params_in ws).processes (laggard d) ∙ ap (ltb (laggard d)) many)
+    ∙ ap not (first_found (λ _ x. lags d x) 0 d.processes)
+    ∙ not-not (none_from (λ _ x. lags d x) 0 d.processes)
+    ∙ none-lags d 0 d.processes

@@ -27,22 +27,6 @@ pub fn all_young(words: &[u32]) -> bool
     ok
 }
 
-// Do the local epochs of all processes that are present equal the global one?
-pub fn caught_up(words: &[u32]) -> bool
-    requires { Sound words.now }
-    ensures { result ≡ caught_up (decode words.now) }
-{
-    let n = crate::bounds(words).processes;
-    let epoch = crate::epoch(words);
-    for q in 0..n {
-        let lead = crate::process::lead(words, ProcessId(q));
-        if (lead.present == 1) & (lead.epoch != epoch) {
-            return false;
-        }
-    }
-    true
-}
-
 // The lowest present process whose local epoch differs from the global one.
 pub fn laggard(words: &[u32]) -> Option<ProcessId>
     requires { Sound words.now }
@@ -50,13 +34,21 @@ pub fn laggard(words: &[u32]) -> Option<ProcessId>
 {
     let n = crate::bounds(words).processes;
     let epoch = crate::epoch(words);
-    for p in 0..n {
-        let l = crate::process::lead(words, ProcessId(p));
-        if (l.present == 1) & (l.epoch != epoch) {
-            return Some(ProcessId(p));
+    for q in 0..n {
+        let lead = crate::process::lead(words, ProcessId(q));
+        if (lead.present == 1) & (lead.epoch != epoch) {
+            return Some(ProcessId(q));
         }
     }
     None
+}
+
+// Do the local epochs of all processes that are present equal the global one?
+pub fn caught_up(words: &[u32]) -> bool
+    requires { Sound words.now }
+    ensures { result ≡ caught_up (decode words.now) }
+{
+    laggard(words).is_none()
 }
 
 // Have all processes that are present checked in: is each of their presence words 1?

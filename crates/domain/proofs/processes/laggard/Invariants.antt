@@ -4,5 +4,5 @@ use Rattle.layout.specs.Encode.{decode}
 use Rattle.domain.proofs.Seeking.{Looking}
 use Rattle.domain.proofs.processes.laggard.Given as goal
 
-abbrev pub invariant-loop-p : goal.invariant-loop-p
-invariant-loop-p l = Looking (λ _ x. lags (decode l.words) x) l.words l.n l.p
+abbrev pub invariant-loop-q : goal.invariant-loop-q
+invariant-loop-q l = Looking (λ _ x. lags (decode l.words) x) l.words l.n l.q
