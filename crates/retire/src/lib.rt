@@ -55,10 +55,9 @@ pub fn retire(words: &mut [u32], p: ProcessId, c: NodeId) -> u32
         c,
         Node {
             state: states::RETIRED,
-            owner: x.owner,
-            guest: x.guest,
             retired: clock,
             limbo: l.epoch,
+            ..x
         },
     );
     reclaim(words, p)

@@ -1,5 +1,5 @@
 -- `retire::reclaim` meets its contract: by its branches. Assumes nothing.
-use Rattle.retire.proofs.Branches.{all-nodes, scans, stays, sound-switched, params-switched, process-switched}
+use Rattle.retire.proofs.Branches.{all-nodes, sound-switched, params-switched, process-switched}
 use Rattle.retire.proofs.Branches.{switches}
 use Rattle.retire.proofs.reclaim.Goals as goal
 
@@ -7,19 +7,6 @@ pub scan-requires : goal.scan-requires
 scan-requires c =
     let all = all-nodes _ c.bounds-a.ensures in
     (c.requires.0, c.requires.1, all.0, all.1)
-
-pub returns-then-path-eq-FALLBACK : goal.returns-then-path-eq-FALLBACK
-returns-then-path-eq-FALLBACK c =
-    let read = c.bounds-a.ensures in
-    let path = c.path.ensures in
-    scans c.requires.0 c.args.p.0 read path c.if-path-eq-FALLBACK.true c.scan.ensures
-
-pub returns-then-retired_count-a : goal.returns-then-retired_count-a
-returns-then-retired_count-a c =
-    let read = c.bounds-a.ensures in
-    let path = c.path.ensures in
-    let fast = c.if-path-eq-FALLBACK.false in
-    stays c.requires.0 c.args.p.0 read path fast c.retired_count.ensures c.if-retired_count-a.true
 
 pub scan-requires-2 : goal.scan-requires-2
 scan-requires-2 c =

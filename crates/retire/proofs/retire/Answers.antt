@@ -12,9 +12,6 @@ lead-l-requires c =
     let n = c.args.c.0 in
     (c.requires.0, process_in_lem Retire ws p 0 n 0 c.requires refl)
 
-pub clock-clock-requires : goal.clock-clock-requires
-clock-clock-requires c = c.requires.0
-
 pub node-x-requires : goal.node-x-requires
 node-x-requires c =
     let ws = c.args.words.now in

@@ -1,12 +1,8 @@
 -- `retire::marks::mark_own` meets its contract: the stretch lent holds the process. Assumes nothing.
 use mathlib.Core.Bool.{true}
-use native.Mathlib.Omega.{arith}
 use Rattle.domain.proofs.Lent.{lent-stretch}
 use Rattle.retire.proofs.Unmarked.{room, lent-small, lent-marked, lent-few}
 use Rattle.retire.proofs.marks.mark_own.Goals as goal
-
-pub slice_bounds-nodes-end : goal.slice_bounds-nodes-end
-slice_bounds-nodes-end c = omega (arith, lent-few c.requires.0 c.place_of-at.ensures)
 
 pub mark_seen-requires : goal.mark_seen-requires
 mark_seen-requires c =

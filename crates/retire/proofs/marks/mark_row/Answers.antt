@@ -1,11 +1,8 @@
 -- `retire::marks::mark_row` meets its contract: the hazards passed are marked, and the others make all of them. Assumes nothing.
-use Prim.Native.Nat.{◌≤◌}
 use mathlib.Core.List.{[], ◌∷◌, map}
 use mathlib.Core.Bool.{true}
 use mathlib.Core.Path.{refl, ap, ◌∙◌}
-use lib.ListN.{get_or, set, length-map, get_or-map}
-use Rattle.lists.proofs.Facts.{all-at}
-use Rattle.model.specs.Params.{most_nodes}
+use lib.ListN.{get_or, set}
 use Rattle.model.specs.State.{empty_hazard}
 use Rattle.layout.specs.Encode.{process_at}
 use Rattle.stretch.proofs.Words.{hazards-length}
@@ -13,16 +10,6 @@ use Rattle.retire.specs.Marks.{marking}
 use Rattle.retire.proofs.MarkedTo.{turn, ends, left-hazards, left-none}
 use native.Mathlib.Omega.{arith}
 use Rattle.retire.proofs.marks.mark_row.Goals as goal
-
-pub mark-requires : goal.mark-requires
-mark-requires c =
-    let h = c.loop-h.h in
-    let at = c.args.at in
-    let vs = map (λ y. y.visible) (process_at at.k c.args.row.now).hazards in
-    let few = hazards-length at.k c.args.row.now in
-    let e = ap (λ y. y.visible) c.hazard-hazard.ensures in
-    let shown = get_or-map (λ y. y.visible) (process_at at.k c.args.row.now).hazards h empty_hazard in
-    omega (arith, e, shown, all-at (λ v. v ≤ most_nodes) vs h 0 c.requires.1 (simp length-map (omega (arith, few))))
 
 pub loop-h-preserved : goal.loop-h-preserved
 unfolding marking

@@ -5,12 +5,6 @@ use Rattle.retire.proofs.Unmarked.{room}
 use native.Mathlib.Omega.{arith}
 use Rattle.retire.proofs.shown.hazard.Goals as goal
 
-pub slice_bounds-nodes-end : goal.slice_bounds-nodes-end
-slice_bounds-nodes-end c =
-    let few = c.requires.0.domain.params.hazards in
-    let k = ap (λ b. b.hazards) c.bounds.ensures in
-    omega (arith, few, k, c.wide-k.ensures.0)
-
 pub hazard_in-requires : goal.hazard_in-requires
 hazard_in-requires c =
     let h = c.requires in
