@@ -3,6 +3,7 @@
 use Rattle.wellformed.proofs.Head.{ready, too_short, bad-head, bad-length, all-fits, nodes-are, nodes_in_lem}
 use Rattle.wellformed.proofs.Head.{nodes-lent, words_long}
 use Rattle.wellformed.proofs.Answering.{malformed, counted}
+use Rattle.model.specs.Params.{InRange}
 use Rattle.limits.specs.Limits.{any_word}
 use Rattle.nodes.specs.NodeLimits.{NodesFit, node_limits}
 use Rattle.layout.proofs.Checked.{head-facts}
@@ -12,6 +13,10 @@ use Rattle.layout.specs.Shape.{nodes_start, word_count_by}
 use Rattle.layout.specs.Codecs.{clock_word}
 use Rattle.std.proofs.Common.{◌≡◌, ◌-◌, ◌≤◌, ℕ, List, Bool, true, ◌&&◌, length, take, drop, sym, ap, ◌∙◌, arith, rules}
 use Rattle.wellformed.proofs.checked.Goals as goal
+
+-- what the test of the head says of the parameters
+ranges : (ws : List ℕ) {b : Bool} → b ≡ head_fits (shape.head.get ws) → b ≡ true → InRange (params_in ws)
+ranges ws e t = (head-facts _ (sym e ∙ t)).params
 
 -- what the pass finds, past the tests of the head and the length
 module _ (ws : List ℕ) where
@@ -34,12 +39,11 @@ returns-then-not-head_fits c =
 
 pub process_start-a-requires : goal.process_start-a-requires
 process_start-a-requires c =
-    let r = (head-facts _ (sym c.head_fits.ensures ∙ c.if-not-head_fits.false)).params in
+    let r = ranges c.args.words.now c.head_fits.ensures c.if-not-head_fits.false in
     (r.hazards.1, r.processes.1)
 
 pub nodes_width-requires : goal.nodes_width-requires
-nodes_width-requires c =
-    (head-facts _ (sym c.head_fits.ensures ∙ c.if-not-head_fits.false)).params.nodes.1
+nodes_width-requires c = (ranges c.args.words.now c.head_fits.ensures c.if-not-head_fits.false).nodes.1
 
 pub returns-then-words-a : goal.returns-then-words-a
 returns-then-words-a c =
@@ -48,8 +52,7 @@ returns-then-words-a c =
     (bad-length ws (λ e. c.if-words-a.true (e ∙ sym (words_long ws c.process_start-a.ensures.0 c.nodes_width.ensures))))
 
 pub overflow_sub-n : goal.overflow_sub-n
-overflow_sub-n c =
-    omega (arith, (head-facts _ (sym c.head_fits.ensures ∙ c.if-not-head_fits.false)).params.processes.0)
+overflow_sub-n c = omega (arith, (ranges c.args.words.now c.head_fits.ensures c.if-not-head_fits.false).processes.0)
 
 pub processes_faults-faults-requires : goal.processes_faults-faults-requires
 processes_faults-faults-requires c =
@@ -59,7 +62,7 @@ processes_faults-faults-requires c =
 pub go_over-requires : goal.go_over-requires
 go_over-requires c =
     let ws = c.args.words.now in
-    let r = (head-facts _ (sym c.head_fits.ensures ∙ c.if-not-head_fits.false)).params in
+    let r = ranges c.args.words.now c.head_fits.ensures c.if-not-head_fits.false in
     (nodes-lent ws c.process_start-a.ensures.0 r.nodes.1 (c.if-words-a.false ∙ words_long ws c.process_start-a.ensures.0 c.nodes_width.ensures), search rules)
 
 pub returns : goal.returns
