@@ -68,11 +68,11 @@ module _ (c : ℕ) (bs : List ℕ) where
 
   -- ---- any bytes
 
-  pub too_long : (n : ℕ) → n ≡ 18 → 65536 < length bs → Refused n ≡ explained_in c bs
+  pub too_long : 65536 < length bs → Refused 18 ≡ explained_in c bs
   unfolding explained_in
-  too_long n e h =
+  too_long h =
       let long = lt-ltb 65536 (length bs) h in
-      ap Refused e ∙ sym (λ t. cond (long t) (Refused 18) (cond (marked bs) (in_book c (trace_of bs)) (in_words c bs)))
+      sym (λ t. cond (long t) (Refused 18) (cond (marked bs) (in_book c (trace_of bs)) (in_words c bs)))
 
   -- m is what the mark says
   module _ (m : Bool) (mark : m ≡ marked bs) (h : length bs ≤ 65536) where

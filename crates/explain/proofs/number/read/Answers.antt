@@ -2,7 +2,7 @@
 -- nothing.
 use mathlib.Core.Path.{sym, ◌∙◌}
 use native.Mathlib.Omega.{arith}
-use Rattle.explain.proofs.Digits.{no_number, no-digits, digit-is, room, digits_more, spoilt, all_read}
+use Rattle.explain.proofs.Digits.{no-digits, digit-is, room, digits_more, spoilt, all_read}
 use Rattle.explain.proofs.number.read.Goals as goal
 
 pub loop-b-init : goal.loop-b-init

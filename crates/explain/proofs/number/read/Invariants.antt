@@ -1,6 +1,6 @@
 -- `explain::number::read` meets its contract. The loop's invariant: the first i bytes are digits, and n is their number. Assumes
 -- nothing.
-use Prim.Native.Nat.{◌≤◌, ◌-◌}
+use Prim.Native.Nat.{◌≤◌}
 use lib.ListN.{length}
 use Rattle.explain.proofs.Digits.{Digits}
 use Rattle.explain.proofs.number.read.Given as goal

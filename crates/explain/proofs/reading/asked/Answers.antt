@@ -1,5 +1,5 @@
 -- `reading::asked` meets its contract: the questions in their order. Assumes nothing.
-use mathlib.Core.Path.{refl, ◌∙◌}
+use mathlib.Core.Path.{◌∙◌}
 use native.Mathlib.Omega.{arith}
 use Rattle.explain.proofs.Ways.{too_long, in_book_lem, in_words_lem}
 use Rattle.explain.proofs.reading.asked.Goals as goal
@@ -7,7 +7,7 @@ use Rattle.explain.proofs.reading.asked.Goals as goal
 pub returns-then-bytes-gt-BYTES : goal.returns-then-bytes-gt-BYTES
 returns-then-bytes-gt-BYTES c =
     let a = c.args in
-    too_long a.card a.bytes.now _ refl (omega arith)
+    too_long a.card a.bytes.now (omega arith)
 
 pub returns-then-marked : goal.returns-then-marked
 returns-then-marked c =

@@ -1,5 +1,5 @@
 -- `reading::put_words` meets its contract. The loop's invariant: the first i words are there (`Filled`). Assumes nothing.
-use Prim.Native.Nat.{◌-◌, ◌≤◌}
+use Prim.Native.Nat.{◌≤◌}
 use mathlib.Core.Path.{◌≡◌}
 use lib.ListN.{length}
 use Rattle.explain.proofs.WordsOf.{Filled}
