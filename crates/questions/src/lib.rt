@@ -78,7 +78,7 @@ fn node_in_range(words: &[u32], kind: Kind, c: NodeId) -> bool
 fn limit_in_range(kind: Kind, limit: u32) -> bool
     ensures { result ≡ answer_to 23 (asked (kind_value kind) [] 0 0 0 limit) }
 {
-    kind.row().guest != Meaning::Limit || (1 <= limit) & (limit <= most::EXAMINED)
+    kind.row().guest != Meaning::Limit || (1..=most::EXAMINED).contains(&limit)
 }
 
 // 8: is the node in the state that the kind needs?
