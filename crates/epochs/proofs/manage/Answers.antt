@@ -1,9 +1,8 @@
 -- `epochs::manage` meets its contract: the call counted, then what a manage that acts does. Assumes nothing.
 use mathlib.Core.Path.{refl}
-use native.Mathlib.Omega.{arith}
 use Rattle.model.specs.Kinds.{Manage}
 use Rattle.questions.proofs.Accepted.{process_in_lem}
-use Rattle.epochs.proofs.Counted.{calls-small, threshold-positive, only-counts, sound-called, process-called, acts}
+use Rattle.epochs.proofs.Counted.{sound-called, process-called, acts}
 use Rattle.epochs.proofs.manage.Goals as goal
 
 pub lead-l-requires : goal.lead-l-requires
@@ -11,31 +10,10 @@ lead-l-requires c =
     let p = c.args.p.0 in
     (c.requires.0, process_in_lem Manage c.args.words.now p 0 0 0 c.requires refl)
 
-pub bounds-a-requires : goal.bounds-a-requires
-bounds-a-requires c = c.requires.0
-
-pub overflow_add-calls : goal.overflow_add-calls
-overflow_add-calls c =
-    let p = c.args.p.0 in
-    omega (arith, calls-small p c.requires c.lead-l.ensures)
-
-pub nonzero_rem-calls : goal.nonzero_rem-calls
-nonzero_rem-calls c =
-    let p = c.args.p.0 in
-    let positive = threshold-positive p c.requires c.lead-l.ensures c.bounds-a.ensures in
-    omega (arith, positive)
-
 pub set_lead-requires : goal.set_lead-requires
 set_lead-requires c =
     let p = c.args.p.0 in
     (c.requires.0, process_in_lem Manage c.args.words.now p 0 0 0 c.requires refl)
-
-pub returns-then-calls-ne0 : goal.returns-then-calls-ne0
-returns-then-calls-ne0 c =
-    let p = c.args.p.0 in
-    let lead = c.lead-l.ensures in
-    let read = c.bounds-a.ensures in
-    only-counts p c.requires lead read c.if-calls-ne0.true _ c.set_lead.ensures
 
 pub set_lead-requires-2 : goal.set_lead-requires-2
 set_lead-requires-2 c =

@@ -1,17 +1,7 @@
 -- `epochs::managing` meets its contract: by the branches of a manage that acts. Assumes nothing.
 use mathlib.Core.Path.{◌∙◌, sym}
-use Rattle.epochs.proofs.Counted.{fast, some-absent, sound-fast, process-fast, goes_back}
+use Rattle.epochs.proofs.Counted.{sound-fast, process-fast, goes_back}
 use Rattle.epochs.proofs.managing.Goals as goal
-
-pub returns-then-path-ne-FALLBACK : goal.returns-then-path-ne-FALLBACK
-returns-then-path-ne-FALLBACK c =
-    let p = c.args.p.0 in
-    fast c.requires.0 p c.path.ensures c.if-path-ne-FALLBACK.true c.quiescent.ensures
-
-pub returns-then-not-all_checked_in : goal.returns-then-not-all_checked_in
-returns-then-not-all_checked_in c =
-    let p = c.args.p.0 in
-    some-absent c.requires.0 p c.path.ensures c.if-path-ne-FALLBACK.false (sym c.all_checked_in.ensures ∙ c.if-not-all_checked_in.true)
 
 pub quiescent-requires-2 : goal.quiescent-requires-2
 quiescent-requires-2 c =

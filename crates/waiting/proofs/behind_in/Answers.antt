@@ -4,11 +4,8 @@ use native.Mathlib.Omega.{arith}
 use Rattle.layout.specs.Encode.{decode}
 use Rattle.domain.proofs.Found.{process-found, process-none}
 use Rattle.domain.proofs.ReadParams.{processes-length}
-use Rattle.waiting.proofs.Answers.{not-asked, lagging, nobody}
+use Rattle.waiting.proofs.Answers.{lagging, nobody}
 use Rattle.waiting.proofs.behind_in.Goals as goal
-
-pub returns-then-path-ne-FAST : goal.returns-then-path-ne-FAST
-returns-then-path-ne-FAST c = not-asked (decode c.args.words.now) (λ q. c.if-path-ne-FAST.true (c.path.ensures ∙ q))
 
 pub returns-in-Some : goal.returns-in-Some
 returns-in-Some c =

@@ -1,17 +1,11 @@
 -- `waiting::explain` meets its contract: 7, or both answers. Assumes nothing.
 use mathlib.Core.Path.{ap, ◌∙◌}
-use borrow.Author.Tests.{lt-ltb, le-ltb}
+use borrow.Author.Tests.{lt-ltb}
 use Rattle.model.specs.Why.{Told, why}
 use Rattle.layout.specs.Encode.{decode}
 use Rattle.layout.proofs.Sound.{head_words_lem}
 use native.Mathlib.Omega.{arith}
 use Rattle.waiting.proofs.explain.Goals as goal
-
-pub returns-then-bounds-c : goal.returns-then-bounds-c
-returns-then-bounds-c c =
-    let d = decode c.args.words.now in
-    let m = ap (λ b. b.nodes) c.bounds.ensures in
-    rw (le-ltb c.args.c.0 d.params.nodes (omega (arith, m)))
 
 pub reason_of-reason-requires : goal.reason_of-reason-requires
 reason_of-reason-requires c =

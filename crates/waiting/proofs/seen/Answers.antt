@@ -11,9 +11,6 @@ use Rattle.domain.proofs.ReadParams.{processes-length}
 use Rattle.waiting.proofs.Answers.{seen_at, seen-nowhere, shown-by}
 use Rattle.waiting.proofs.seen.Goals as goal
 
-pub overflow_add-v : goal.overflow_add-v
-overflow_add-v c = let few = c.requires.0.sizes.nodes in omega (arith, few, c.requires.1)
-
 pub unwrap-requires : goal.unwrap-requires
 unwrap-requires c =
     let a = c.args in
