@@ -7,7 +7,6 @@ use Rattle.std.specs.Prelude.{Option, Some, None, Result, Err}
 use Rattle.std.specs.Option.{ok_or}
 use Rattle.refusals.specs.declared.Refusal.{Refusal}
 use Rattle.refusals.specs.declared.Refusal.TheVariants.{Malformed}
-use Rattle.refusals.proofs.Numbers.{same-answer}
 use Rattle.model.specs.State.{Step}
 use Rattle.model.specs.Claims.{reachable_count}
 use Rattle.layout.specs.Encode.{decode}
@@ -16,7 +15,7 @@ use Rattle.layout.specs.Sound.{Sound}
 use Rattle.layout.proofs.Checked.{well-formed-sound, sound-well-formed}
 use Rattle.wellformed.specs.Answers.{reachable_in}
 use Rattle.steps.specs.Stepped.{SteppedTo}
-use Rattle.qsense.specs.Calls.{Reply, refusing, step_words, reachable_words}
+use Rattle.qsense.specs.Calls.{refusing, step_words, reachable_words}
 use Rattle.qsense.specs.Values.{reply_of, Stepped}
 
 module _ (ws : List ℕ) (b : Bool) (e : b ≡ well_formed ws) where
@@ -52,7 +51,3 @@ answered ws e = ap (λ (o : Option ℕ). reply_of (ok_or o Malformed) ws) e ∙ 
         ≡ cond b (record { refusal = 0; value = reachable_count (decode ws); words = ws }) (refusing 3 ws)
     by true = refl
     by false = refl
-
--- answers with the same reply are the same
-pub alike : (a b : Result ℕ Refusal) {ws : List ℕ} {x : Reply} → reply_of a ws ≡ x → reply_of b ws ≡ x → a ≡ b
-alike a b p q = same-answer a b (ap (λ (r : Reply). r.refusal) (p ∙ sym q)) (ap (λ (r : Reply). r.value) (p ∙ sym q))

@@ -1,4 +1,3 @@
 pub mod Asked
 pub mod Portioning
-pub mod AsRead
 pub mod Going

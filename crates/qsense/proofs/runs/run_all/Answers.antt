@@ -1,5 +1,4 @@
--- `runs::run_all` meets its contract. The loop's invariant: the words and the answers are on the way (`Going`) to what the whole list
--- leaves, i steps of it being taken. The measure: the steps that are left. Assumes nothing.
+-- `runs::run_all` meets its contract: the way to what the whole list leaves begins, goes on by a step, and ends. Assumes nothing.
 use Rattle.qsense.proofs.Turns.{going_start, going_on, going_end}
 use mathlib.Core.Path.{◌≡◌, refl}
 use native.Mathlib.Omega.{arith}

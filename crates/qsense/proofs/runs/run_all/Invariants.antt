@@ -1,5 +1,5 @@
 -- `runs::run_all` meets its contract. The loop's invariant: the words and the answers are on the way (`Going`) to what the whole list
--- leaves, i steps of it being taken.. Assumes nothing.
+-- leaves, i steps of it being taken. Assumes nothing.
 use Rattle.qsense.proofs.Turns.{Going}
 use lib.ListN.{length}
 use mathlib.Core.Path.{◌≡◌}

@@ -1,9 +1,10 @@
 -- `steps::node_kinds::remove` meets its contract: by the node as it was. Assumes nothing.
-use mathlib.Core.Path.{refl}
+use mathlib.Core.Path.{refl, ap, ◌∙◌}
+use Rattle.model.specs.State.{set_node}
 use Rattle.model.specs.Machine.{removing}
-use Rattle.steps.proofs.AsRead.{of-read}
 use Rattle.std.proofs.lemmas.Result.{err_from_is_err_and}
 use Rattle.model.specs.Kinds.{Remove}
+use Rattle.layout.specs.Encode.{encode, decode}
 use Rattle.layout.specs.Values.{step_value}
 use Rattle.steps.proofs.Asked.{turned-away, let-in, node-in}
 use Rattle.steps.proofs.node_kinds.remove.Goals as goal
@@ -29,5 +30,7 @@ set_node-requires c =
 
 pub returns : goal.returns
 returns c =
+    let d = decode c.args.words.now in
+    let s = step_value c.args.step in
     let-in Remove c.args.words.now (step_value c.args.step) c.in_ok-ask.ensures c.requires.0 c.requires.1
-    (of-read (removing c.args.step.process.0) c.args.words.now c.args.step.node.0 c.node-x.ensures c.set_node.ensures, refl)
+    (c.set_node.ensures ∙ ap (λ n. encode (set_node d s.node (removing s.process n))) c.node-x.ensures, refl)
