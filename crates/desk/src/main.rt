@@ -5,7 +5,7 @@
 
 ghost use Rattle.std.specs.Prelude.{◌≤◌, length, take};
 ghost use Rattle.print.specs.Printed.{print_room, Prints};
-ghost use Rattle.desk.specs.Sizes.{most_read, short_book};
+ghost use Rattle.desk.specs.Sizes.{most_read};
 ghost use Rattle.desk.specs.Written.{IsPrint};
 
 use input::Input;
