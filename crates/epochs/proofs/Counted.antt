@@ -7,12 +7,12 @@ use mathlib.Core.Logic.{◌≢◌}
 use native.Mathlib.Omega.{arith}
 use borrow.Author.Tests.{eq-eqb, ne_eqb}
 use lib.Dec.{eqb}
-use Rattle.model.specs.Params.{Params, most_calls}
+use Rattle.model.specs.Params.{Params}
 use Rattle.model.specs.WellFormed.{WellFormed}
 use Rattle.model.specs.State.{Step, Fast, Fallback, process_of, set_process, with_words, with_path}
 use Rattle.model.specs.Kinds.{Manage}
 use Rattle.model.specs.Epochs.{all_checked_in, quiescent, managing, called_by, counted}
-use Rattle.model.proofs.WellFormed.{process-fits, keep-counted, keep-path}
+use Rattle.model.proofs.WellFormed.{keep-counted, keep-path}
 use Rattle.layout.specs.Shape.{Lead, lead_of, word}
 use Rattle.layout.specs.Encode.{encode, decode, params_in}
 use Rattle.layout.specs.Sound.{Sound}
@@ -32,9 +32,6 @@ module _ {ws : List ℕ} (s : Sound ws) (p : ℕ) {v : ℕ} (e : v ≡ (decode w
     slow : eqb (decode ws).path Fallback ≡ true
     slow = eq-eqb _ _ (sym e ∙ z)
 
-    pub some-absent : all_checked_in (decode ws) ≡ false → Does (managing (decode ws) p) ws 0
-    some-absent b = rw (slow, b) (s.whole, refl)
-
     module _ {ws₁ : List ℕ} (e₁ : ws₁ ≡ encode (with_path (decode ws) Fast)) where
       good : WellFormed (with_path (decode ws) Fast)
       good = keep-path s.domain Fast (omega arith)
@@ -52,20 +49,7 @@ module _ {ws : List ℕ} (s : Sound ws) (p : ℕ) {v : ℕ} (e : v ≡ (decode w
 -- ---- the call: x is the lead of the process, a are the parameters, as the code has read them
 
 module _ {ws : List ℕ} (p : ℕ) (r : Ready Manage ws p 0 0 0) {x : Lead} (ex : x ≡ lead_of (process_of (decode ws) p)) where
-  -- the count is small
-  pub calls-small : x.calls < most_calls
-  calls-small =
-      let f = (process-fits r.0.domain p ((facts Manage ws p 0 0 0 r).process refl)).words in
-      let c : x.calls ≡ (process_of (decode ws) p).calls = ap (λ y. y.calls) ex in
-      omega (arith, f.calls, r.0.domain.params.quiescence_threshold)
-
   module _ {a : Params} (ea : a ≡ (decode ws).params) where
-    pub threshold-positive : a.quiescence_threshold ≢ 0
-    threshold-positive =
-        let q = r.0.domain.params.quiescence_threshold in
-        let t : a.quiescence_threshold ≡ (decode ws).params.quiescence_threshold = ap (λ y. y.quiescence_threshold) ea in
-        λ z. omega arith
-
     call : Step
     call = given 12 p 0 0 0
 
@@ -77,15 +61,6 @@ module _ {ws : List ℕ} (p : ℕ) (r : Ready Manage ws p 0 0 0) {x : Lead} (ex 
         → ws₁ ≡ encode (counted (decode ws) call n v)
     unfolding call
     written n v ws₁ q = q ∙ ap (λ y. encode (set_process (decode ws) p (with_words (process_of (decode ws) p) y.epoch n v))) ex
-
-    -- a call that does not act
-    pub only-counts : (x.calls + 1) % a.quiescence_threshold ≢ 0 → (ws₁ : List ℕ)
-        → ws₁ ≡ encode (set_process (decode ws) p (with_words (process_of (decode ws) p) x.epoch ((x.calls + 1) % a.quiescence_threshold) x.presence))
-        → Acted Manage ws p 0 0 0 ws₁ 0
-    unfolding call
-    only-counts z ws₁ q =
-        let n : eqb (called_by (decode ws) (given 12 p 0 0 0)) 0 ≡ false = ne_eqb _ _ (λ w. z (counts ∙ w)) in
-        rw n (written _ _ ws₁ q ∙ (λ i. encode (counted (decode ws) (given 12 p 0 0 0) (counts i) (ex i).presence)), refl)
 
     module _ {ws₁ : List ℕ} (e₁ : ws₁ ≡ encode (set_process (decode ws) p (with_words (process_of (decode ws) p) x.epoch 0 1))) where
       good₁ : WellFormed (counted (decode ws) call 0 1)
