@@ -7,7 +7,7 @@ use mathlib.Core.Logic.{◌≢◌}
 use borrow.Author.Tests.{eq-eqb, ne_eqb}
 use lib.Dec.{eqb}
 use Rattle.model.specs.WellFormed.{WellFormed}
-use Rattle.model.specs.State.{Domain, process_of, set_process, with_words, with_epoch, next_epoch}
+use Rattle.model.specs.State.{Domain, process_of, set_process, with_words}
 use Rattle.model.specs.Retire.{freeing}
 use Rattle.model.specs.Epochs.{expired, caught_up, adopted, adopt, quiescent}
 use Rattle.model.proofs.WellFormed.{keep-freeing}
@@ -58,5 +58,3 @@ module _ (d : Domain) (p : ℕ) {x : Lead} (ex : x ≡ lead_of (process_of d p))
     pub waits : caught_up d ≡ false → {ws : List ℕ} → ws ≡ encode d → Does (quiescent d p) ws 0
     waits b h = rw (here, b) (h, refl)
 
-    pub moves-on : caught_up d ≡ true → {ws : List ℕ} → ws ≡ encode (with_epoch d (next_epoch g)) → Does (quiescent d p) ws 0
-    moves-on b h = rw (here, b) (h ∙ ap (λ n. encode (with_epoch d (next_epoch n))) eg, refl)

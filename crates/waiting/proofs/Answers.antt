@@ -14,17 +14,14 @@ use Rattle.domain.specs.Found.{hazard_below}
 use Rattle.domain.proofs.ReadParams.{processes-length}
 use Rattle.retire.proofs.Seen.{shows_first}
 use Rattle.lists.specs.Tests.{lacks}
-use Rattle.lists.proofs.Facts.{all-at}
 use Rattle.model.specs.Params.{delay}
-use Rattle.model.specs.State.{Node, Domain, Fast, Retired, free_node, no_process, node_of}
-use Rattle.model.specs.WellFormed.{NodeFits}
+use Rattle.model.specs.State.{Node, Domain, Fast, Retired, no_process}
 use Rattle.model.specs.Retire.{visible_to, age_of}
-use Rattle.model.specs.Why.{Reason, NotRetired, Young, Visible, Ready, NotAsked, Nobody, Lagging}
+use Rattle.model.specs.Why.{Reason, Visible, Ready, NotAsked, Nobody, Lagging}
 use Rattle.model.specs.Why.{shows, showing_process, showing_hazard, seen_by, ticks_left, reason_of, laggard, behind_in}
 use Rattle.model.proofs.Why.{shown-found}
 use Rattle.layout.specs.Encode.{decode, params_in}
 use Rattle.layout.specs.Sound.{Sound}
-use Rattle.layout.proofs.Sound.{head_words_lem}
 
 -- ---- what the owner sees
 
@@ -50,20 +47,8 @@ shown-by {ws} s p v q e l =
 -- ---- the four answers
 
 module _ (d : Domain) (c : ℕ) (n : Node) where
-  pub not-retired : n.state ≢ Retired → NotRetired n.state ≡ reason_of d c n
-  not-retired h = rw (ne_eqb _ _ h)
-
-  pub still-young : n.state ≡ Retired → 0 < ticks_left d n → Young (ticks_left d n) ≡ reason_of d c n
-  still-young h l = rw (eq-eqb _ _ h, le-ltb (delay d.params) (age_of d n) (omega arith))
-
   pub old : {r : Reason} → r ≡ seen_by d n.owner (suc c) → n.state ≡ Retired → ticks_left d n ≤ 0 → r ≡ reason_of d c n
   old e h l = e ∙ rw (eq-eqb _ _ h, lt-ltb (delay d.params) (age_of d n) (omega arith))
-
--- no node is retired after the clock
-pub retired-before : {ws : List ℕ} → Sound ws → (c : ℕ) → c < (params_in ws).nodes → (node_of (decode ws) c).retired_at ≤ (decode ws).clock
-retired-before {ws} s c l =
-    (all-at (NodeFits (decode ws).params (decode ws).clock) (decode ws).nodes c free_node s.domain.nodes
-    (omega (arith, s.domain.node_count, (head_words_lem ws).nodes))).retired_at
 
 -- ---- who is behind
 
