@@ -88,9 +88,6 @@ pub record Flushing (k : ℕ) (r₀ r : List ℕ) (i : ℕ) : Type 0 where
   pub buffer : (process_at k r).buffer ≡ (process_at k r₀).buffer
   pub rest : flush_all (process_at k r) (drop i (process_at k r₀).buffer) ≡ flushed (process_at k r₀) (process_at k r₀).buffer
 
-pub flush-starts : (k : ℕ) (r : List ℕ) → Stretch k r → Flushing k r r 0
-flush-starts k r s = record { stretch = s; buffer = refl; rest = refl }
-
 flush-one : (x : Process) (b c : List Pending) (i : ℕ) → i < length c → b ≡ c
     → flush_all (committing x (get_or b i no_store) b) (drop (i + 1) c) ≡ flush_all x (drop i c)
 flush-one x b c i l e =

@@ -1,5 +1,5 @@
 -- What the hazards of a stretch show, read one by one, and the pending stores put over it: what their own process sees. Assumes nothing.
-use Prim.Native.Nat.{ℕ, ◌+◌, ◌<◌, ◌≤◌}
+use Prim.Native.Nat.{ℕ, ◌+◌, ◌<◌}
 use mathlib.Core.Bool.{Bool, true, false, cond}
 use mathlib.Core.List.{List, [], ◌∷◌, map}
 use mathlib.Core.Path.{◌≡◌, refl, sym, ap, ◌∙◌}
@@ -7,7 +7,7 @@ use native.Mathlib.Omega.{arith}
 use native.Mathlib.Nat.{zero-add}
 use native.Mathlib.Numerals.{add-one}
 use borrow.Author.Tests.{eqb-true, eqb-false}
-use lib.ListN.{length, get_or, set, drop, length-map, length-set, drop_of_length-le, get_or-map}
+use lib.ListN.{length, get_or, set, drop, length-map, length-set, get_or-map}
 use lib.Seq.{drop-cons, ext_get_or, get_or-set_same, get_or-set_other}
 use lib.Dec.{eqb}
 use Rattle.lists.proofs.Stores.{set_cases}
@@ -74,13 +74,8 @@ pub record Overlaying (b : List Pending) (vs₀ : List ℕ) (e : ℕ) (vs : List
   pub rest : overlaid (drop e b) vs ≡ overlaid b vs₀
 
 module _ {b : List Pending} {vs₀ : List ℕ} where
-  pub overlay-starts : Overlaying b vs₀ 0 vs₀
-  overlay-starts = record { rest = refl }
-
   pub overlay-turn : {e : ℕ} {vs : List ℕ} → Overlaying b vs₀ e vs → e < length b → (h v : ℕ) → h ≡ (get_or b e no_store).hazard → v ≡ (get_or b e no_store).node
       → Overlaying b vs₀ (e + 1) (set vs h v)
   overlay-turn {e} {vs} o l h v p q =
       record { rest = rw (add-one, p, q) (ap (λ (c : List Pending). overlaid c vs) (sym (drop-cons b e no_store l)) ∙ o.rest) }
 
-  pub overlay-ends : {e : ℕ} {vs : List ℕ} → Overlaying b vs₀ e vs → length b ≤ e → vs ≡ overlaid b vs₀
-  overlay-ends o l = rw (drop_of_length-le b l) at o.rest
