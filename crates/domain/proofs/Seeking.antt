@@ -1,16 +1,15 @@
 -- A loop over the processes of a domain that looks for the first one that passes a test. Assumes nothing.
-use Prim.Native.Nat.{ℕ, suc, ◌+◌, ◌<◌, ◌≤◌}
+use Prim.Native.Nat.{ℕ, suc, ◌+◌, ◌≤◌}
 use mathlib.Core.Bool.{Bool, true, false, not, ◌&&◌, not-not}
 use mathlib.Core.List.{List, [], ◌∷◌}
 use mathlib.Core.Path.{◌≡◌, refl, ap, ◌∙◌}
 use native.Mathlib.Omega.{arith}
-use Rattle.std.specs.Prelude.{Some, None}
 use lib.ListN.{length}
 use lib.Dec.{ltb, eqb}
 use Rattle.std.specs.Option.{is_some}
-use Rattle.lists.specs.Tests.{implies, every, first_from}
-use Rattle.lists.proofs.First.{none_from, first_found, Seeking, seek-starts, seek-turn, seek_found, seek-ends}
-use Rattle.model.specs.State.{Process, Domain, no_process, process_of, in_epochs}
+use Rattle.lists.specs.Tests.{implies, every}
+use Rattle.lists.proofs.First.{none_from, first_found, Seeking, seek-starts}
+use Rattle.model.specs.State.{Process, Domain, in_epochs}
 use Rattle.model.specs.Epochs.{caught_up}
 use Rattle.model.specs.Why.{lags, laggard}
 use Rattle.layout.specs.Encode.{decode, params_in}
@@ -18,7 +17,7 @@ use Rattle.layout.specs.Sound.{Sound}
 use Rattle.layout.specs.Values.{params_value}
 use Rattle.layout.specs.declared.Params.{Params}
 use Rattle.domain.specs.Found.{process_below}
-use Rattle.domain.proofs.Found.{found-at, found-none, some-below}
+use Rattle.domain.proofs.Found.{some-below}
 use Rattle.domain.proofs.ReadParams.{processes-length, processes-word}
 
 -- none of the first p of n processes passes
@@ -31,27 +30,6 @@ pub record Looking (f : ℕ → Process → Bool) (ws : List ℕ) (n p : ℕ) : 
 pub look-starts : {f : ℕ → Process → Bool} {ws : List ℕ} {a : Params} → Sound ws → params_value a ≡ (decode ws).params
     → Looking f ws a.processes 0
 look-starts s e = record { sound = s; many = processes-word s e; low = omega arith; seeking = seek-starts }
-
-module _ {f : ℕ → Process → Bool} {ws : List ℕ} {n p : ℕ} (h : Looking f ws n p) where
-  pub look-turn : p < n → f p (process_of (decode ws) p) ≡ false → Looking f ws n (p + 1)
-  look-turn l e =
-      record {
-        sound = h.sound;
-        many = h.many;
-        low = omega arith;
-        seeking = seek-turn no_process h.seeking (omega (arith, h.many, processes-length h.sound)) e;
-      }
-
-  pub look-found : p < n → f p (process_of (decode ws) p) ≡ true
-      → Some (record { 0 = p }) ≡ process_below (params_in ws).processes (first_from f 0 (decode ws).processes)
-  look-found l e =
-      found-at (λ q. record { 0 = q }) (seek_found no_process h.seeking (omega (arith, h.many, processes-length h.sound)) e)
-      (omega (arith, h.many))
-
-  pub look-ends : n ≤ p → None ≡ process_below (params_in ws).processes (first_from f 0 (decode ws).processes)
-  look-ends l =
-      found-none (λ q. record { 0 = q }) (seek-ends h.seeking (omega (arith, h.low, h.many, processes-length h.sound)))
-      (omega (arith, h.many))
 
 -- ---- who is behind
 
