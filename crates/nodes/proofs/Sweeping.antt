@@ -1,7 +1,7 @@
 -- A sweep in two passes: the places of the nodes that pass a test are noted, then the nodes at them are freed. For the loop of each
 -- what holds at its head, where it starts, after a turn and where it ends; and a test that only a range of places passes. Assumes nothing.
 use Prim.Native.Nat.{ℕ, zero, suc, ◌+◌, ◌-◌, ◌≤◌, ◌<◌}
-use mathlib.Core.Bool.{Bool, true, false, ◌&&◌, cond, and-false}
+use mathlib.Core.Bool.{Bool, true, false, cond, and-false}
 use mathlib.Core.List.{List, append-nil}
 use mathlib.Core.Path.{◌≡◌, refl, sym, ap, ◌∙◌, subst}
 use native.Mathlib.Omega.{arith}
@@ -14,41 +14,39 @@ use Rattle.lists.specs.Sweep.{set_each}
 use Rattle.lists.proofs.Facts.{all_snoc}
 use Rattle.lists.proofs.Turns.{one-most, count-from-turn, swept_to, swept-turn, swept_kept, each-length, each_more}
 use Rattle.lists.proofs.Turns.{each_turn}
-use borrow.Author.Tests.{le-leb, lt-leb, lt-ltb, le-ltb}
+use borrow.Author.Tests.{lt-leb, le-ltb}
 use Rattle.model.specs.Params.{most_nodes}
 use Rattle.model.specs.State.{Node, free_node}
-use Rattle.model.specs.Retire.{within}
 use Rattle.layout.specs.Nodes.{nodes_words}
 use Rattle.layout.specs.Nodes.{nodes_in}
 use Rattle.nodes.specs.Part.{node_in, Part, with_node}
-use Rattle.nodes.specs.Sweeps.{freed_at, Swept}
+use Rattle.nodes.specs.Sweeps.{freed_at, OnlyBetween, Swept}
 use Rattle.nodes.proofs.Words.{nodes-length, nodes-back, part-words, part-with}
 
 -- ---- the first pass
 
--- the places of those of the first i nodes that pass are noted: where they are freed, the first i nodes are swept
-pub record Noting (f : ℕ → Node → Bool) (m : ℕ) (r : List ℕ) (places : List ℕ) (count i : ℕ) : Type 0 where
+-- before node i so many places are noted, each of a node, whatever the test is
+pub record Noted (m : ℕ) (r places : List ℕ) (count i : ℕ) : Type 0 where
   pub part : Part m r
   pub room : length places ≡ most_nodes
   pub low : i ≤ m
   pub few : count ≤ i
   pub below : All (λ c. c < m) (take count places)
+
+-- they are those of the first i nodes that pass: where they are freed, the first i nodes are swept
+pub record Noting (f : ℕ → Node → Bool) (m : ℕ) (r places : List ℕ) (count i : ℕ) : Type 0 where
   pub freed : set_each free_node (take count places) (nodes_in m r) ≡ swept_to f free_node 0 i (nodes_in m r)
   pub passed : count ≡ count_from f 0 (take i (nodes_in m r))
 
-pub notes-none : {f : ℕ → Node → Bool} {m : ℕ} {r places : List ℕ} → Part m r → length places ≡ most_nodes → Noting f m r places 0 0
-notes-none h e =
-    record { part = h; room = e; low = omega arith; few = omega arith; below = tt; freed = refl; passed = refl }
+pub noted-none : {m i : ℕ} {r places : List ℕ} → Part m r → length places ≡ most_nodes → i ≤ m → Noted m r places 0 i
+noted-none h e l = record { part = h; room = e; low = l; few = omega arith; below = tt }
 
-module _ {f : ℕ → Node → Bool} {m : ℕ} {r places : List ℕ} {count i : ℕ} (h : Noting f m r places count i) where
-  many : length (nodes_in m r) ≡ m
-  many = nodes-length m r
+inside : {m i : ℕ} (r : List ℕ) → i < m → i < length (nodes_in m r)
+inside {m} r l = rw (nodes-length m r) l
 
+module _ {m : ℕ} {r places : List ℕ} {count i : ℕ} where
   -- place i, noted and counted or not
-  module _ (l : i < m) where
-    inside : i < length (nodes_in m r)
-    inside = rw many l
-
+  module _ (h : Noted m r places count i) (l : i < m) where
     there : count < length places
     there = omega (arith, h.room, h.few, h.part.few)
 
@@ -57,52 +55,49 @@ module _ {f : ℕ → Node → Bool} {m : ℕ} {r places : List ℕ} {count i : 
         rw (add-one count, take-suc-set places count i there) (all_snoc (λ c. c < m) (take count places) i h.below l)
     below_more false = rw (add-zero count, take-set-le count places count i (omega arith)) h.below
 
-    freed-more : (b : Bool) → b ≡ f i (node_in m r i)
-        → set_each free_node (take (count + cond b 1 0) (set places count i)) (nodes_in m r) ≡ swept_to f free_node 0 (suc i) (nodes_in m r)
-    freed-more true e =
-        rw (add-one count, take-suc-set places count i there)
-        (sym (each_more free_node (take count places) i (nodes_in m r))
-        ∙ (λ t. set (h.freed t) i (cond (e t) free_node (node_in m r i)))
-        ∙ rw zero-add at (swept-turn f free_node 0 (nodes_in m r) i free_node inside))
-    freed-more false e =
-        rw (add-zero count, take-set-le count places count i (omega arith))
-        (h.freed ∙ swept_kept f free_node 0 (nodes_in m r) i free_node inside (rw zero-add (sym e)))
-
-    passed-more : (b : Bool) → b ≡ f i (node_in m r i) → count + cond b 1 0 ≡ count_from f 0 (take (suc i) (nodes_in m r))
-    passed-more b e = rw (h.passed, e) (rw zero-add at (count-from-turn f 0 (nodes_in m r) i free_node inside))
-
-    pub notes-more : {b : Bool} → b ≡ f i (node_in m r i) → Noting f m r (set places count i) (count + cond b 1 0) (suc i)
-    notes-more {b} e =
+    pub noted-more : (b : Bool) → Noted m r (set places count i) (count + cond b 1 0) (suc i)
+    noted-more b =
         record {
           part = h.part;
           room = length-set places count i ∙ h.room;
           low = l;
           few = omega (arith, one-most b, h.few);
           below = below_more b;
-          freed = freed-more b e;
-          passed = passed-more b e;
         }
 
-  -- place i passed over
-  passed_over : i < m → f i (node_in m r i) ≡ false → Noting f m r places count (suc i)
-  passed_over l e =
-      record {
-        part = h.part;
-        room = h.room;
-        low = l;
-        few = omega (arith, h.few);
-        below = h.below;
-        freed = h.freed ∙ swept_kept f free_node 0 (nodes_in m r) i free_node (inside l) (rw zero-add e);
-        passed = rw add-zero at (passed-more l false (sym e));
-      }
+  module _ {f : ℕ → Node → Bool} (k : Noting f m r places count i) (l : i < m) where
+    passed-more : (b : Bool) → b ≡ f i (node_in m r i) → count + cond b 1 0 ≡ count_from f 0 (take (suc i) (nodes_in m r))
+    passed-more b e = rw (k.passed, e) (rw zero-add at (count-from-turn f 0 (nodes_in m r) i free_node (inside r l)))
 
-  pub notes-all : {r' : List ℕ} → m ≤ i → r' ≡ freed_at (take count places) m r → Swept f m r r' count
-  notes-all l e =
-      let q : length (nodes_in m r) ≤ i = rw many l in
-      (e ∙ ap (nodes_words) h.freed ∙ rw (take_all i (nodes_in m r) q, drop_of_length-le (nodes_in m r) q, append-nil), h.passed ∙ ap (count_from f 0) (take_all i (nodes_in m r) q))
+    -- place i passed over
+    passed_over : f i (node_in m r i) ≡ false → Noting f m r places count (suc i)
+    passed_over e =
+        record {
+          freed = k.freed ∙ swept_kept f free_node 0 (nodes_in m r) i free_node (inside r l) (rw zero-add e);
+          passed = rw add-zero at (passed-more false (sym e));
+        }
+
+    freed-more : (h : Noted m r places count i) (b : Bool) → b ≡ f i (node_in m r i)
+        → set_each free_node (take (count + cond b 1 0) (set places count i)) (nodes_in m r) ≡ swept_to f free_node 0 (suc i) (nodes_in m r)
+    freed-more h true e =
+        rw (add-one count, take-suc-set places count i (there h l))
+        (sym (each_more free_node (take count places) i (nodes_in m r))
+        ∙ (λ t. set (k.freed t) i (cond (e t) free_node (node_in m r i)))
+        ∙ rw zero-add at (swept-turn f free_node 0 (nodes_in m r) i free_node (inside r l)))
+    freed-more h false e = rw (add-zero count, take-set-le count places count i (omega arith)) (passed_over (sym e)).freed
+
+    pub notes-more : Noted m r places count i → {b : Bool} → b ≡ f i (node_in m r i)
+        → Noting f m r (set places count i) (count + cond b 1 0) (suc i)
+    notes-more h {b} e = record { freed = freed-more h b e; passed = passed-more b e }
+
+  notes-all : {f : ℕ → Node → Bool} {r' : List ℕ} → Noting f m r places count i → m ≤ i → r' ≡ freed_at (take count places) m r
+      → Swept f m r r' count
+  notes-all {f} k l e =
+      let q : length (nodes_in m r) ≤ i = rw (nodes-length m r) l in
+      (e ∙ ap (nodes_words) k.freed ∙ rw (take_all i (nodes_in m r) q, drop_of_length-le (nodes_in m r) q, append-nil), k.passed ∙ ap (count_from f 0) (take_all i (nodes_in m r) q))
 
 -- n places passed over, none of which passes
-pub notes-past : {f : ℕ → Node → Bool} {m : ℕ} {r places : List ℕ} {count i : ℕ} (n j : ℕ) → Noting f m r places count i → j ≡ i + n → j ≤ m
+notes-past : {f : ℕ → Node → Bool} {m : ℕ} {r places : List ℕ} {count i : ℕ} (n j : ℕ) → Noting f m r places count i → j ≡ i + n → j ≤ m
     → ((c : ℕ) (x : Node) → i ≤ c → c < j → f c x ≡ false) → Noting f m r places count j
 notes-past {f} {m} {r} {places} {count} {i} zero j h e l no' =
     subst (λ k. Noting f m r places count k) (omega arith) h
@@ -111,25 +106,16 @@ notes-past {f} {m} {r} {places} {count} {i} (suc n) j h e l no' =
     (λ c x k. no' c x (omega arith))
 
 -- of a test that only places from a up to b pass: those before and those after
-module _ (g : ℕ → Node → Bool) (a b : ℕ) where
-  between-no : (c : ℕ) (x : Node) → within a b c ≡ false → (within a b c && g c x) ≡ false
-  between-no c x e = rw e
+pub notes-start : {f : ℕ → Node → Bool} {a m : ℕ} {r places : List ℕ} (b : ℕ) → OnlyBetween a b m f → a ≤ m → Noting f m r places 0 a
+notes-start {a = a} b only l =
+    notes-past {i = 0} a a (record { freed = refl; passed = refl }) (omega arith) l (λ c x _ k. only c x (omega arith) (rw (lt-leb a c k)))
 
-  pub notes-start : {m : ℕ} {r places : List ℕ} → Part m r → length places ≡ most_nodes → a ≤ m
-      → Noting (λ c x. within a b c && g c x) m r places 0 a
-  notes-start h e l =
-      notes-past a a (notes-none h e) (omega arith) l
-      (λ c x _ k. between-no c x (rw (lt-leb a c k)))
-
-  pub notes-rest : {m : ℕ} {r places r' : List ℕ} {count i : ℕ} → Noting (λ c x. within a b c && g c x) m r places count i → b ≤ i
-      → r' ≡ freed_at (take count places) m r → Swept (λ c x. within a b c && g c x) m r r' count
-  notes-rest {m} {i = i} h l =
-      notes-all (notes-past (m - i) m h (omega (arith, h.low)) (omega arith) (λ c x k _. between-no c x (rw (le-ltb c b (omega arith), and-false))))
-      (omega arith)
-
-  -- and one between them
-  pub between-yes : {d : Bool} (c : ℕ) (x : Node) → a ≤ c → c < b → d ≡ g c x → d ≡ (within a b c && g c x)
-  between-yes c x h l e = rw (le-leb a c h, lt-ltb c b l) e
+pub notes-rest : {f : ℕ → Node → Bool} {b m : ℕ} {r places r' : List ℕ} {count i : ℕ} (a : ℕ) → OnlyBetween a b m f
+    → Noting f m r places count i → i ≤ m → b ≤ i → r' ≡ freed_at (take count places) m r → Swept f m r r' count
+notes-rest {b = b} {m = m} {i = i} a only h few l =
+    notes-all
+    (notes-past (m - i) m h (omega (arith, few)) (omega arith) (λ c x k below. only c x below (rw (le-ltb c b (omega arith), and-false))))
+    (omega arith)
 
 -- ---- the second pass
 

@@ -1,5 +1,5 @@
 -- Which nodes a sweep frees, and what it leaves. Assumes nothing.
-use Rattle.std.specs.Prelude.{ℕ, suc, Bool, false, not, ◌&&◌, List, ◌≡◌, get_or, ltb, eqb}
+use Rattle.std.specs.Prelude.{ℕ, suc, ◌<◌, Bool, false, not, ◌&&◌, List, ◌≡◌, get_or, ltb, eqb}
 use Rattle.lists.specs.Tests.{count_from}
 use Rattle.lists.specs.Sweep.{sweep_from, set_each}
 use Rattle.model.specs.State.{Node, free_node}
@@ -18,6 +18,10 @@ due_between p a b limit marks c n = within a b c && due_unmarked p limit marks c
 -- Retired by p, in the limbo list of this epoch
 abbrev pub expired_in : ℕ → ℕ → ℕ → Node → Bool
 expired_in p epoch c n = retired_by p n && eqb n.limbo epoch
+
+-- of m nodes none passes the test f but from node a up to node b, that one left out
+abbrev pub OnlyBetween : ℕ → ℕ → ℕ → (ℕ → Node → Bool) → Type 0
+OnlyBetween a b m f = (c : ℕ) (n : Node) → c < m → within a b c ≡ false → f c n ≡ false
 
 -- words r after the nodes at these places are freed
 abbrev pub freed_at : List ℕ → ℕ → List ℕ → List ℕ

@@ -1,10 +1,10 @@
 // Sweeps over the nodes' part of a domain's words: Retired nodes freed, by age and marks or by limbo list.
-ghost use Rattle.std.specs.Prelude.{◌≡◌, cond, ◌+◌, ◌≤◌, ◌<◌, set};
+ghost use Rattle.std.specs.Prelude.{◌≡◌, Bool, cond, ◌+◌, ◌≤◌, ◌<◌, set};
 ghost use Rattle.lists.specs.Tests.{All};
 ghost use Rattle.model.specs.Params.{most_nodes};
 ghost use Rattle.model.specs.State.{free_node};
 ghost use Rattle.nodes.specs.Part.{node_in, Part, with_node};
-ghost use Rattle.nodes.specs.Sweeps.{due_unmarked, due_between, expired_in, freed_at, Swept};
+ghost use Rattle.nodes.specs.Sweeps.{due_unmarked, due_between, expired_in, freed_at, OnlyBetween, Swept};
 
 use layout::words::{most, node_word, states};
 use layout::{Node, NodeId, ProcessId};
@@ -70,6 +70,31 @@ fn free_noted(nodes: &mut [u32], m: u32, noted: &[u8])
     }
 }
 
+// Frees each node from `from` up to `to`, that one left out, that passes a test, and answers how many.
+#[inline(always)]
+fn sweep<F: Fn(&[u32], NodeId) -> bool>(
+    nodes: &mut [u32],
+    m: u32,
+    from: u32,
+    to: u32,
+    passes: F,
+) -> u32
+    requires range { Part m nodes.old × (from ≤ to) × (to ≤ m) }
+    requires may { (x : _) (c : NodeId) → Part m x.now → c.0 < m → F.pre passes x c }
+    ensures { (f : _) → OnlyBetween from to m f
+        → ((x : _) (c : NodeId) (b : Bool) → x.now ≡ nodes.old → from ≤ c.0 → c.0 < to → F.post passes x c b → b ≡ f c.0 (node_in m nodes.old c.0))
+        → Swept f m nodes.old nodes.new result }
+{
+    let mut places = [0u8; most::NODES as usize];
+    let mut count: u32 = 0;
+    for i in from..to {
+        let passed = passes(nodes, NodeId(i));
+        count = note(&mut places, count, i, passed);
+    }
+    free_noted(nodes, m, &places[..layout::wide(count)]);
+    count
+}
+
 // Frees each node of p from `from` up to `to`, that one left out, that is due, and answers how many.
 pub fn sweep_due(
     nodes: &mut [u32],
@@ -83,14 +108,7 @@ pub fn sweep_due(
     requires { Part m nodes.old × (from ≤ to) × (to ≤ m) }
     ensures { Swept (due_between p.0 from to limit marks.now) m nodes.old nodes.new result }
 {
-    let mut places = [0u8; most::NODES as usize];
-    let mut count: u32 = 0;
-    for i in from..to {
-        let is_due = due(nodes, m, NodeId(i), p, limit, marks);
-        count = note(&mut places, count, i, is_due);
-    }
-    free_noted(nodes, m, &places[..layout::wide(count)]);
-    count
+    sweep(nodes, m, from, to, |x, c| due(x, m, c, p, limit, marks))
 }
 
 // Frees each Retired node of p in the limbo list of `epoch`, and answers how many.
@@ -98,12 +116,5 @@ pub fn sweep_expired(nodes: &mut [u32], m: u32, p: ProcessId, epoch: u32) -> u32
     requires { Part m nodes.old }
     ensures { Swept (expired_in p.0 epoch) m nodes.old nodes.new result }
 {
-    let mut places = [0u8; most::NODES as usize];
-    let mut count: u32 = 0;
-    for i in 0..m {
-        let is_expired = expired(nodes, m, NodeId(i), p, epoch);
-        count = note(&mut places, count, i, is_expired);
-    }
-    free_noted(nodes, m, &places[..layout::wide(count)]);
-    count
+    sweep(nodes, m, 0, m, |x, c| expired(x, m, c, p, epoch))
 }
