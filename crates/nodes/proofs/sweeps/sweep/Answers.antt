@@ -9,7 +9,7 @@ use Rattle.nodes.proofs.sweeps.sweep.Goals as goal
 pub loop-i-init : goal.loop-i-init
 loop-i-init g c =
     let h = c.requires.range in
-    (omega arith, h.1, noted-none h.0 refl (omega arith), λ f only t. notes-start c.args.to only (omega arith))
+    (omega arith, omega (arith, h.1), noted-none h.0 refl (omega arith), λ f only t. notes-start c.args.to only (omega arith))
 
 pub loop-i-preserved : goal.loop-i-preserved
 loop-i-preserved g c =
