@@ -14,7 +14,8 @@ ghost use Rattle.qsense.specs.Values.{answer_reply};
 ghost use Rattle.qsense_c.specs.Values.{portioned_of, portion_reply_of, numbers_in};
 
 use answers::Answer;
-use layout::{HazardId, NodeId, Params, ProcessId, Step};
+use layout::words::answer_word;
+use layout::{NodeId, Params, ProcessId};
 use refusals::Refusal;
 use retire::portion::Portion;
 use waiting::{Behind, Reason};
@@ -53,7 +54,8 @@ pub extern "C" fn qsense_make(
     qsense::make(words, params).into()
 }
 
-// One step.
+// One step, as a run of one: so the dispatch has one caller, the loop of a run, and is folded into it. By `qsense::step` it would have two, and be
+// folded into neither (docs/DECISIONS.md 174).
 #[unsafe(no_mangle)]
 pub extern "C" fn qsense_step(
     words: &mut [u32],
@@ -65,14 +67,12 @@ pub extern "C" fn qsense_step(
 ) -> Answer
     ensures { answer_reply result words.new ≡ step_words words.old (given kind process hazard node guest) }
 {
-    let step = Step {
-        kind,
-        process: ProcessId(process),
-        hazard: HazardId(hazard),
-        node: NodeId(node),
-        guest,
-    };
-    qsense::step(words, step).into()
+    let mut answer = [0; answer_word::WIDTH];
+    qsense::run(words, &[kind, process, hazard, node, guest], &mut answer);
+    Answer {
+        refusal: answer[answer_word::REFUSAL],
+        value: answer[answer_word::VALUE],
+    }
 }
 
 // A list of steps.
