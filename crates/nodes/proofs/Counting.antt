@@ -1,4 +1,4 @@
--- A loop that counts the nodes that pass a test, from a place on: what holds at its head, where it starts, after a turn and where it ends.
+-- A loop that counts the nodes that pass a test, from a place on: what holds at its head, after a turn and where it ends.
 -- Assumes nothing.
 use Prim.Native.Nat.{ℕ, suc, ◌+◌, ◌-◌, ◌≤◌, ◌<◌}
 use mathlib.Core.Bool.{Bool, true, false, cond}
@@ -36,9 +36,6 @@ here_on m r {i} l = drop-cons (nodes_in m r) i free_node (rw (nodes-length m r) 
 
 pub none-on : (m : ℕ) (r : List ℕ) {i : ℕ} → m ≤ i → drop i (nodes_in m r) ≡ []
 none-on m r {i} l = let long : length (nodes_in m r) ≤ i = rw (nodes-length m r) l in drop_of_length-le (nodes_in m r) long
-
-pub starts : {f : Node → Bool} {m : ℕ} {r : List ℕ} {from : ℕ} → Part m r → from ≤ m → Counting f m r from 0 from
-starts h l = record { part = h; start = omega arith; low = l; few = omega arith; rest = omega arith }
 
 module _ {f : Node → Bool} {m : ℕ} {r : List ℕ} {from found i : ℕ} (h : Counting f m r from found i) where
   pub turn : {v : ℕ} → i < m → v ≡ from_bool (f (node_in m r i)) → Counting f m r from (found + v) (i + 1)

@@ -82,7 +82,8 @@ fn sweep<F: Fn(&[u32], NodeId) -> bool>(
     requires range { Part m nodes.old × (from ≤ to) × (to ≤ m) }
     requires may { (x : _) (c : NodeId) → Part m x.now → c.0 < m → F.pre passes x c }
     ensures { (f : _) → OnlyBetween from to m f
-        → ((x : _) (c : NodeId) (b : Bool) → x.now ≡ nodes.old → from ≤ c.0 → c.0 < to → F.post passes x c b → b ≡ f c.0 (node_in m nodes.old c.0))
+        → ((x : _) (c : NodeId) (b : Bool) → x.now ≡ nodes.old → from ≤ c.0 → c.0 < to
+        → F.post passes x c b → b ≡ f c.0 (node_in m nodes.old c.0))
         → Swept f m nodes.old nodes.new result }
 {
     let mut places = [0u8; most::NODES as usize];

@@ -12,5 +12,6 @@ abbrev pub invariant-loop-i : goal.invariant-loop-i
 invariant-loop-i g l =
     (l.from ≤ l.i) × (l.i ≤ l.to) × Noted l.m l.nodes l.places l.count l.i
     × ((f : ℕ → Node → Bool) → OnlyBetween l.from l.to l.m f
-    → ((x : _) (c : _) (b : Bool) → x.now ≡ l.nodes → l.from ≤ c.0 → c.0 < l.to → goal.F-post g l.passes x c b → b ≡ f c.0 (node_in l.m l.nodes c.0))
+    → ((x : _) (c : _) (b : Bool) → x.now ≡ l.nodes → l.from ≤ c.0 → c.0 < l.to
+    → goal.F-post g l.passes x c b → b ≡ f c.0 (node_in l.m l.nodes c.0))
     → Noting f l.m l.nodes l.places l.count l.i)
