@@ -8,7 +8,7 @@ ghost use Rattle.refusals.specs.Numbers.{refusal_in};
 ghost use Rattle.kinds.specs.Table.{kind_value, kind_in, kind_refusal, reading, needing, owning, row_code, guest_code};
 
 use self::Meaning::{Hazard, Limit, Node, Number, Process, Unread};
-use layout::words::states;
+use layout::State;
 use refusals::Refusal;
 
 // Each with its number.
@@ -99,7 +99,7 @@ pub struct Row {
     pub hazard: Meaning,
     pub node: Meaning,
     pub guest: Meaning,
-    pub needs: Option<u32>,
+    pub needs: Option<State>,
     pub owns: bool,
 }
 
@@ -119,7 +119,7 @@ fn reading(process: Meaning, hazard: Meaning, node: Meaning, guest: Meaning) -> 
 
 impl Row {
     // Its node in this state.
-    fn needing(self, state: u32) -> Row
+    fn needing(self, state: State) -> Row
         ensures { result ≡ needing state self }
     {
         Row {
@@ -129,7 +129,7 @@ impl Row {
     }
 
     // Its node in this state, and the process's own.
-    fn owning(self, state: u32) -> Row
+    fn owning(self, state: State) -> Row
         ensures { result ≡ owning state self }
     {
         Row {
@@ -146,20 +146,20 @@ impl Kind {
         ensures { result ≡ row_code (kind_value self) }
     {
         match self {
-            Kind::Allocate => reading(Process, Unread, Node, Number).needing(states::FREE),
-            Kind::Publish => reading(Process, Unread, Node, Unread).owning(states::ALLOCATED),
+            Kind::Allocate => reading(Process, Unread, Node, Number).needing(State::Free),
+            Kind::Publish => reading(Process, Unread, Node, Unread).owning(State::Allocated),
             Kind::Protect => reading(Process, Hazard, Node, Unread),
             Kind::Check => reading(Process, Hazard, Unread, Unread),
             Kind::Use => reading(Process, Hazard, Unread, Unread),
             Kind::Clear => reading(Process, Hazard, Unread, Unread),
-            Kind::Remove => reading(Process, Unread, Node, Unread).needing(states::REACHABLE),
-            Kind::Retire => reading(Process, Unread, Node, Unread).owning(states::REMOVED),
+            Kind::Remove => reading(Process, Unread, Node, Unread).needing(State::Reachable),
+            Kind::Retire => reading(Process, Unread, Node, Unread).owning(State::Removed),
             Kind::Drain => reading(Process, Unread, Unread, Unread),
             Kind::Flush => reading(Process, Unread, Unread, Unread),
             Kind::Tick => reading(Unread, Unread, Unread, Unread),
             Kind::Manage => reading(Process, Unread, Unread, Unread),
             Kind::ClearPresence => reading(Unread, Unread, Unread, Unread),
-            Kind::Reinsert => reading(Process, Unread, Node, Unread).owning(states::REMOVED),
+            Kind::Reinsert => reading(Process, Unread, Node, Unread).owning(State::Removed),
             // Its node field is a second process, which takes over.
             Kind::Leave => reading(Process, Unread, Process, Unread),
             Kind::Join => reading(Process, Unread, Unread, Unread),

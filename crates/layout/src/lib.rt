@@ -1,5 +1,5 @@
-// The values that travel by value: ids, parameters, and the records that stand in a domain's words; a word as an index, and where things
-// stand.
+// The values that travel by value: ids, parameters, the records that stand in a domain's words, and the states and paths with their
+// numbers; a word as an index, and where things stand.
 #![tactic(auto)]
 
 pub mod fresh;
@@ -10,6 +10,7 @@ ghost use Rattle.model.specs.Params.{most_processes, most_hazards, most_nodes};
 ghost use Rattle.layout.specs.Shape.{process_width, process_start};
 ghost use Rattle.layout.specs.Encode.{shape};
 ghost use Rattle.layout.specs.Pairs.{word_range, paired};
+ghost use Rattle.layout.specs.Values.{state_number, path_number};
 
 use words::{hazard_word, head_word, lead_word, most, node_word};
 
@@ -70,6 +71,39 @@ pub struct Node {
     pub guest: u32,
     pub retired: u32,
     pub limbo: u32,
+}
+
+// The five states of a node. A node's words may say any number, so the code compares numbers.
+#[derive(Clone, Copy, Debug, PartialEq, Eq)]
+pub enum State {
+    Free = 0,
+    Allocated = 1,
+    Reachable = 2,
+    Removed = 3,
+    Retired = 4,
+}
+
+impl From<State> for u32 {
+    ghost from_gives = { λ s n. n ≡ state_number s };
+
+    fn from(state: State) -> u32 {
+        state as u32
+    }
+}
+
+// The two paths.
+#[derive(Clone, Copy, Debug, PartialEq, Eq)]
+pub enum Path {
+    Fast = 0,
+    Fallback = 1,
+}
+
+impl From<Path> for u32 {
+    ghost from_gives = { λ p n. n ≡ path_number p };
+
+    fn from(path: Path) -> u32 {
+        path as u32
+    }
 }
 
 // A word as an index, with the bound that keeps sums of such from wrapping.

@@ -1,6 +1,5 @@
-// The words of a domain: the number of each word in its row, the words of a row, the numbers that stand for states and paths, and how
-// many there may be of each thing. The one place in code that knows them; the rules have theirs in `model` Params and State, and the
-// specs in Shape.
+// The words of a domain: the number of each word in its row, the words of a row, and how many there may be of each thing. The one place
+// in code that knows them; the rules have theirs in `model` Params, and the specs in Shape.
 
 // The head, before the processes: N, K, M, T, Q, C and E, the clock, the path, the global epoch.
 pub mod head_word {
@@ -102,28 +101,6 @@ pub mod answer_word {
     pub const WIDTH: usize = 2;
 }
 
-// The five states of a node.
-pub mod states {
-    pub const FREE: u32 = 0;
-
-    pub const ALLOCATED: u32 = 1;
-
-    pub const REACHABLE: u32 = 2;
-
-    pub const REMOVED: u32 = 3;
-
-    pub const RETIRED: u32 = 4;
-
-    pub const COUNT: usize = 5;
-}
-
-// The two paths.
-pub mod paths {
-    pub const FAST: u32 = 0;
-
-    pub const FALLBACK: u32 = 1;
-}
-
 // The most of each.
 pub mod most {
     // N, K, M, T, Q and C, each from 1 on, and E, from 0 on: the ranges of documents 01 and 02.
@@ -140,6 +117,9 @@ pub mod most {
     pub const FALLBACK: u32 = 256;
 
     pub const LATENESS: u32 = 1000;
+
+    // The states of a node.
+    pub const STATES: usize = 5;
 
     // Epochs go round from 0 to 2; how many there are.
     pub const EPOCH: u32 = 2;

@@ -8,8 +8,8 @@ ghost use Rattle.model.specs.Leave.{under_way};
 ghost use Rattle.layout.specs.Nodes.{nodes_in};
 ghost use Rattle.nodes.specs.Part.{node_in, Part};
 
-use layout::words::{node_word, states};
-use layout::{NodeId, ProcessId};
+use layout::words::node_word;
+use layout::{NodeId, ProcessId, State};
 
 // How many nodes pass a test, from node `from` on. What the test answers is added: the loop has no branch of its own.
 #[inline(always)]
@@ -32,7 +32,7 @@ pub fn reachable_count(nodes: &[u32], m: u32) -> u32
     requires { Part m nodes.now }
     ensures { result ≡ count (λ n. eqb n.state Reachable) (nodes_in m nodes.now) }
 {
-    count_passing(m, 0, |c| crate::state_of(nodes, m, c) == states::REACHABLE)
+    count_passing(m, 0, |c| crate::state_of(nodes, m, c) == u32::from(State::Reachable))
 }
 
 // Is node c a Retired node of p? State and owner are compared at once.
@@ -42,7 +42,7 @@ pub fn retired_by(nodes: &[u32], m: u32, c: NodeId, p: ProcessId) -> bool
 {
     let at = crate::offset(m, c);
     layout::pair(crate::state_of(nodes, m, c), nodes[at + node_word::OWNER])
-        == layout::pair(states::RETIRED, p.0)
+        == layout::pair(State::Retired.into(), p.0)
 }
 
 // How many Retired nodes p has, from node `from` on.
@@ -60,7 +60,7 @@ fn under_way(nodes: &[u32], m: u32, c: NodeId, p: ProcessId) -> bool
 {
     let at = crate::offset(m, c);
     let state = crate::state_of(nodes, m, c);
-    ((state == states::ALLOCATED) | (state == states::REMOVED))
+    ((state == u32::from(State::Allocated)) | (state == u32::from(State::Removed)))
         & (nodes[at + node_word::OWNER] == p.0)
 }
 

@@ -6,8 +6,8 @@ ghost use Rattle.nodes.specs.Part.{node_in, Part};
 ghost use Rattle.nodes.specs.NodeLimits.{limit_count};
 ghost use Rattle.nodes.specs.Pass.{state_weights, Further, Finds};
 
-use layout::NodeId;
-use layout::words::states;
+use layout::words::most;
+use layout::{NodeId, State};
 use limits::Faults;
 
 // What is known of the nodes gone over so far, and of the words before them.
@@ -18,11 +18,11 @@ pub struct Known {
 }
 
 // By state, what a node counts for: to look it up takes less than to compare the state (docs/BENCH.md, 'Request 5').
-fn weights() -> [u32; states::COUNT]
+fn weights() -> [u32; most::STATES]
     ensures { result ≡ state_weights }
 {
-    let mut weights = [0u32; states::COUNT];
-    weights[states::REACHABLE as usize] = 1;
+    let mut weights = [0u32; most::STATES];
+    weights[State::Reachable as usize] = 1;
     weights
 }
 
@@ -60,7 +60,7 @@ pub fn go_over(faults: Faults, nodes: &[u32], m: u32, limits: &[u32], counting: 
         reachable: 0,
     };
     for i in 0..m {
-        if crate::state_of(nodes, m, NodeId(i)) > states::RETIRED {
+        if crate::state_of(nodes, m, NodeId(i)) > u32::from(State::Retired) {
             return None;
         }
         known = further(known, nodes, m, NodeId(i), limits, &weights, counting);

@@ -6,8 +6,8 @@ ghost use Rattle.model.specs.State.{free_node};
 ghost use Rattle.nodes.specs.Part.{node_in, Part, with_node};
 ghost use Rattle.nodes.specs.Sweeps.{due_unmarked, due_between, expired_in, freed_at, OnlyBetween, Swept};
 
-use layout::words::{most, node_word, states};
-use layout::{Node, NodeId, ProcessId};
+use layout::words::{most, node_word};
+use layout::{Node, NodeId, ProcessId, State};
 
 // Is node c due: Retired by p at a clock below the limit, its mark not set?
 fn due(
@@ -51,7 +51,7 @@ fn free(nodes: &mut [u32], m: u32, c: NodeId)
     ensures { nodes.new ≡ with_node m nodes.old c.0 free_node }
 {
     let x = Node {
-        state: states::FREE,
+        state: State::Free.into(),
         owner: 0,
         guest: 0,
         retired: 0,
