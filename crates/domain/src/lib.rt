@@ -18,12 +18,12 @@ ghost use Rattle.model.specs.Claims.{reachable_count};
 ghost use Rattle.layout.specs.Shape.{nodes_start};
 ghost use Rattle.layout.specs.Encode.{shape, decode, params_in};
 ghost use Rattle.layout.specs.Sound.{Sound};
-ghost use Rattle.layout.specs.Values.{params_value, node_value};
+ghost use Rattle.layout.specs.Values.{params_value, node_value, path_number};
 ghost use Rattle.nodes.specs.Portions.{Reached};
 ghost use Rattle.domain.specs.Effects.{Does, changed, unmarked};
 
 use layout::words::{head_word, most};
-use layout::{Node, NodeId, Params, ProcessId};
+use layout::{Node, NodeId, Params, Path, ProcessId};
 use nodes::portions::End;
 
 // ---- the head
@@ -51,11 +51,15 @@ pub fn clock(words: &[u32]) -> u32
     words[head_word::CLOCK]
 }
 
-pub fn path(words: &[u32]) -> u32
+pub fn path(words: &[u32]) -> Path
     requires { Sound words.now }
-    ensures { result ≡ (decode words.now).path }
+    ensures { path_number result ≡ (decode words.now).path }
 {
-    words[head_word::PATH]
+    if words[head_word::PATH] == u32::from(Path::Fast) {
+        Path::Fast
+    } else {
+        Path::Fallback
+    }
 }
 
 // The global epoch.
@@ -73,11 +77,11 @@ pub fn set_clock(words: &mut [u32], v: u32)
     words[head_word::CLOCK] = v;
 }
 
-pub fn set_path(words: &mut [u32], v: u32)
+pub fn set_path(words: &mut [u32], path: Path)
     requires { Sound words.old }
-    ensures { words.new ≡ changed (λ d. with_path d v) words.old }
+    ensures { words.new ≡ changed (λ d. with_path d (path_number path)) words.old }
 {
-    words[head_word::PATH] = v;
+    words[head_word::PATH] = path.into();
 }
 
 pub fn set_epoch(words: &mut [u32], v: u32)

@@ -10,8 +10,8 @@ ghost use Rattle.layout.specs.Sound.{Sound};
 ghost use Rattle.domain.specs.Effects.{Does};
 ghost use Rattle.questions.specs.Acted.{Ready, Acted};
 
-use layout::ProcessId;
-use layout::words::{most, paths};
+use layout::words::most;
+use layout::{Path, ProcessId};
 
 // Brings process p to the global epoch: its expired nodes are freed; answers how many.
 fn adopt(words: &mut [u32], p: ProcessId) -> u32
@@ -49,13 +49,13 @@ fn managing(words: &mut [u32], p: ProcessId) -> u32
     requires { Sound words.old × (p.0 < (params_in words.old).processes) }
     ensures { Does (managing (decode words.old) p.0) words.new result }
 {
-    if domain::path(words) != paths::FALLBACK {
+    if domain::path(words) != Path::Fallback {
         return quiescent(words, p);
     }
     if !domain::processes::all_checked_in(words) {
         return 0;
     }
-    domain::set_path(words, paths::FAST);
+    domain::set_path(words, Path::Fast);
     quiescent(words, p)
 }
 

@@ -16,8 +16,8 @@ ghost use Rattle.kinds.specs.Table.{kind_value};
 ghost use Rattle.questions.specs.Answers.{answer_to, asked};
 
 use kinds::{Kind, Meaning};
-use layout::words::{most, states};
-use layout::{HazardId, NodeId, ProcessId, Step};
+use layout::words::most;
+use layout::{HazardId, NodeId, ProcessId, State, Step};
 use refusals::Refusal;
 
 // 5: is the process one of the domain's?
@@ -88,7 +88,7 @@ fn state_met(words: &[u32], kind: Kind, c: NodeId) -> bool
 {
     match kind.row().needs {
         None => true,
-        Some(state) => read::node(words, c).state == state,
+        Some(state) => read::node(words, c).state == u32::from(state),
     }
 }
 
@@ -114,7 +114,7 @@ fn reachable(words: &[u32], kind: Kind, p: ProcessId, h: HazardId) -> bool
     requires { Sound words.now }
     ensures { result ≡ answer_to 11 (asked (kind_value kind) words.now p.0 h.0 0 0) }
 {
-    kind != Kind::Check || read::hazard_node(words, p, h).state == states::REACHABLE
+    kind != Kind::Check || read::hazard_node(words, p, h).state == u32::from(State::Reachable)
 }
 
 // 12: is the hazard validated?

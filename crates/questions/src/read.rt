@@ -9,8 +9,7 @@ ghost use Rattle.layout.specs.Values.{lead_value, hazard_value, node_value};
 ghost use Rattle.domain.specs.Effects.{process_in};
 ghost use Rattle.questions.specs.Answers.{hazard_in, target_in, node_in};
 
-use layout::words::states;
-use layout::{Hazard, HazardId, Lead, Node, NodeId, ProcessId};
+use layout::{Hazard, HazardId, Lead, Node, NodeId, ProcessId, State};
 
 // The words of process p before its hazards.
 pub fn lead(words: &[u32], p: ProcessId) -> Lead
@@ -73,7 +72,7 @@ pub fn node(words: &[u32], c: NodeId) -> Node
 {
     if domain::bounds(words).nodes <= c.0 {
         return Node {
-            state: states::FREE,
+            state: State::Free.into(),
             owner: 0,
             guest: 0,
             retired: 0,

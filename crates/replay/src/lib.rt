@@ -112,6 +112,6 @@ pub fn replay(words: &mut [u32], bytes: &[u8], header: Header, out: &mut [u8]) -
     let start = text::put_params(out, header.params);
     let turn = replay_steps(words, bytes, header.first, header.count, out, start);
     let clock = domain::clock(words);
-    let path = domain::path(words);
+    let path = u32::from(domain::path(words));
     text::put_end(out, turn.at, clock, path, turn.reachable)
 }

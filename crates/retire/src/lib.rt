@@ -14,15 +14,14 @@ ghost use Rattle.layout.specs.Sound.{Sound};
 ghost use Rattle.domain.specs.Effects.{Does};
 ghost use Rattle.questions.specs.Acted.{Ready, Acted};
 
-use layout::words::{paths, states};
-use layout::{Node, NodeId, ProcessId};
+use layout::{Node, NodeId, Path, ProcessId, State};
 
 // Goes over to the fallback path and forgets presence.
 fn fall_back(words: &mut [u32])
     requires { Sound words.old }
     ensures { words.new ≡ encode (fall_back (decode words.old)) }
 {
-    domain::set_path(words, paths::FALLBACK);
+    domain::set_path(words, Path::Fallback);
     domain::processes::clear_presence(words);
 }
 
@@ -32,7 +31,7 @@ fn reclaim(words: &mut [u32], p: ProcessId) -> u32
     ensures { Does (reclaim (decode words.old) p.0) words.new result }
 {
     let a = domain::bounds(words);
-    if domain::path(words) == paths::FALLBACK {
+    if domain::path(words) == Path::Fallback {
         return scan::scan(words, p, 0, a.nodes);
     }
     if domain::retired_count(words, p, 0) < a.fallback {
@@ -54,7 +53,7 @@ pub fn retire(words: &mut [u32], p: ProcessId, c: NodeId) -> u32
         words,
         c,
         Node {
-            state: states::RETIRED,
+            state: State::Retired.into(),
             retired: clock,
             limbo: l.epoch,
             ..x

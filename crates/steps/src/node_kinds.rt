@@ -10,8 +10,7 @@ ghost use Rattle.domain.specs.Effects.{changed};
 ghost use Rattle.steps.specs.Stepped.{SteppedTo};
 
 use kinds::Kind;
-use layout::words::states;
-use layout::{Node, NodeId, Step};
+use layout::{Node, NodeId, State, Step};
 use refusals::Refusal;
 
 // The node becomes Allocated by the process, for the guest.
@@ -25,7 +24,7 @@ pub fn allocate(words: &mut [u32], step: Step) -> Result<u32, Refusal>
         words,
         step.node,
         Node {
-            state: states::ALLOCATED,
+            state: State::Allocated.into(),
             owner: step.process.0,
             guest: step.guest,
             retired: 0,
@@ -46,7 +45,7 @@ fn make_reachable(words: &mut [u32], c: NodeId)
         words,
         c,
         Node {
-            state: states::REACHABLE,
+            state: State::Reachable.into(),
             owner: 0,
             guest: was.guest,
             retired: was.retired,
@@ -89,7 +88,7 @@ pub fn remove(words: &mut [u32], step: Step) -> Result<u32, Refusal>
         words,
         step.node,
         Node {
-            state: states::REMOVED,
+            state: State::Removed.into(),
             owner: step.process.0,
             guest: x.guest,
             retired: x.retired,

@@ -9,8 +9,7 @@ ghost use Rattle.layout.specs.Sound.{Sound};
 ghost use Rattle.layout.specs.Values.{node_value};
 ghost use Rattle.waiting.specs.Values.{reason_value, behind_value, explained_value};
 
-use layout::words::{paths, states};
-use layout::{HazardId, Node, NodeId, ProcessId};
+use layout::{HazardId, Node, NodeId, Path, ProcessId, State};
 use refusals::Refusal;
 
 // Why a node is still waiting: the first of these that is true.
@@ -71,7 +70,7 @@ fn reason_of(words: &[u32], c: NodeId) -> Reason
     ensures { let d = decode words.now in reason_value result ≡ reason_of d c.0 (node_of d c.0) }
 {
     let node = domain::node(words, c);
-    if node.state != states::RETIRED {
+    if node.state != u32::from(State::Retired) {
         return Reason::NotRetired(node.state);
     }
     let left = ticks_left(words, node);
@@ -87,7 +86,7 @@ fn behind_in(words: &[u32]) -> Behind
     requires { Sound words.now }
     ensures { behind_value result ≡ behind_in (decode words.now) }
 {
-    if domain::path(words) != paths::FAST {
+    if domain::path(words) != Path::Fast {
         return Behind::NotAsked;
     }
     match domain::processes::laggard(words) {

@@ -9,8 +9,9 @@ ghost use Rattle.layout.specs.Encode.{shape};
 ghost use Rattle.layout.specs.Words.{head_fits, well_formed};
 ghost use Rattle.wellformed.specs.Answers.{counted_in, reachable_in};
 
+use layout::Path;
 use layout::fresh::up_to;
-use layout::words::{head_word, most, paths};
+use layout::words::{head_word, most};
 
 // Whether the head's words are in their ranges. Word by word, each with a way out: taken together they are made into a vector, and the
 // vector unit is what the rest of the check waits for.
@@ -41,7 +42,7 @@ fn head_fits(words: &[u32]) -> bool
         return false;
     }
     (words[head_word::CLOCK] <= most::CLOCK)
-        & ((words[head_word::PATH] <= paths::FALLBACK) & (words[head_word::EPOCH] <= most::EPOCH))
+        & ((words[head_word::PATH] <= u32::from(Path::Fallback)) & (words[head_word::EPOCH] <= most::EPOCH))
 }
 
 // How many nodes are Reachable, if it is asked, else 0; none unless the words are those of a well-formed domain. One function for both: with a

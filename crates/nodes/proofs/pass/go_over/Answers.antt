@@ -7,14 +7,14 @@ use Rattle.nodes.proofs.pass.go_over.Goals as goal
 pub loop-i-init : goal.loop-i-init
 loop-i-init c = (omega arith, starts refl)
 
-pub returns-then-state_of-gt-RETIRED : goal.returns-then-state_of-gt-RETIRED
-returns-then-state_of-gt-RETIRED c =
+pub returns-then-state_of-from : goal.returns-then-state_of-from
+returns-then-state_of-from c =
     stops c.requires.0 c.loop-i-test.true (omega arith)
 
 pub further-known-requires : goal.further-known-requires
 further-known-requires c =
     record {
-      part = (c.requires.0, c.loop-i-test.true, omega (arith, c.state_of.ensures, c.if-state_of-gt-RETIRED.false));
+      part = (c.requires.0, c.loop-i-test.true, omega (arith, c.state_of.ensures, c.from.ensures, c.if-state_of-from.false));
       limits_len = (c.requires.1, c.weights-weights.ensures, few c.loop-i.invariant.1);
     }
 
