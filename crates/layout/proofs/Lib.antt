@@ -9,3 +9,4 @@ pub mod Checked
 pub mod FreshWords
 pub mod Room
 pub mod Ranges
+pub mod Paths

@@ -1,6 +1,8 @@
 -- `retire::reclaim` meets its contract: by its branches. Assumes nothing.
 use Rattle.retire.proofs.Branches.{all-nodes, sound-switched, params-switched, process-switched}
 use Rattle.retire.proofs.Branches.{switches}
+use Rattle.layout.proofs.Paths.{other-number}
+use Rattle.layout.specs.declared.Path.TheVariants.{Fallback}
 use Rattle.retire.proofs.reclaim.Goals as goal
 
 pub scan-requires : goal.scan-requires
@@ -13,7 +15,7 @@ scan-requires-2 c =
     let p = c.args.p.0 in
     let read = c.bounds-a.ensures in
     let path = c.path.ensures in
-    let fast = c.if-path-eq-FALLBACK.false in
+    let fast = other-number _ Fallback c.if-eq.ensures in
     let count = c.retired_count.ensures in
     let switched = c.fall_back.ensures in
     let all = all-nodes _ (params-switched c.requires.0 p read path fast count switched) in
@@ -24,7 +26,7 @@ returns c =
     let p = c.args.p.0 in
     let read = c.bounds-a.ensures in
     let path = c.path.ensures in
-    let fast = c.if-path-eq-FALLBACK.false in
+    let fast = other-number _ Fallback c.if-eq.ensures in
     let count = c.retired_count.ensures in
     let switched = c.fall_back.ensures in
     switches c.requires.0 p read path fast count switched c.if-retired_count-a.false c.scan-2.ensures

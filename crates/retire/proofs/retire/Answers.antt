@@ -33,7 +33,7 @@ reclaim-requires c =
     let lead = c.lead-l.ensures in
     let clock = c.clock-clock.ensures in
     let node = c.node-x.ensures in
-    let set = c.set_node.ensures in
+    let set = rw c.into.ensures at c.set_node.ensures in
     (sound-marked p n c.requires _ lead _ clock _ node _ set, process-marked p n c.requires _ lead _ clock _ node _ set)
 
 pub returns : goal.returns
@@ -43,4 +43,4 @@ returns c =
     let lead = c.lead-l.ensures in
     let clock = c.clock-clock.ensures in
     let node = c.node-x.ensures in
-    retires p n c.requires _ lead _ clock _ node _ c.set_node.ensures _ _ c.reclaim.ensures
+    retires p n c.requires _ lead _ clock _ node _ (rw c.into.ensures at c.set_node.ensures) _ _ c.reclaim.ensures
