@@ -5,8 +5,7 @@ ghost use Rattle.waiting.specs.Values.{reason_value, behind_value, why_value, ex
 ghost use Rattle.explain.specs.Sentence.{state_text, ticks_text, young_text, visible_text, reason_text, lagging_text, behind_text, why_text};
 ghost use Rattle.explain.specs.Sentence.{most_number, most_state, most_ticks, most_reason, most_behind, most_line, PutUpto, Said};
 
-use layout::words::states;
-use layout::{HazardId, ProcessId};
+use layout::{HazardId, ProcessId, State};
 use refusals::Refusal;
 use waiting::{Behind, Reason, Why};
 
@@ -20,15 +19,21 @@ fn put_number(out: &mut [u8], at: usize, n: u32, after: u8) -> usize
     text::put_number(out, at, n, after)
 }
 
+const FREE: u32 = State::Free as u32;
+
+const ALLOCATED: u32 = State::Allocated as u32;
+
+const REACHABLE: u32 = State::Reachable as u32;
+
 // The name of a state that is not Retired.
 fn put_state(out: &mut [u8], at: usize, state: u32) -> usize
     requires { at + most_state ≤ length out.old }
     ensures { PutUpto most_state out.old at (state_text state) out.new result }
 {
     match state {
-        states::FREE => text::put_bytes(out, at, b"Free"),
-        states::ALLOCATED => text::put_bytes(out, at, b"Allocated"),
-        states::REACHABLE => text::put_bytes(out, at, b"Reachable"),
+        FREE => text::put_bytes(out, at, b"Free"),
+        ALLOCATED => text::put_bytes(out, at, b"Allocated"),
+        REACHABLE => text::put_bytes(out, at, b"Reachable"),
         _ => text::put_bytes(out, at, b"Removed"),
     }
 }

@@ -1,4 +1,5 @@
 -- `replay::replay` meets its contract: the first line, the lines of the steps, the last line (`Whole`). Assumes nothing.
+use mathlib.Core.Path.{◌∙◌}
 use native.Mathlib.Omega.{arith}
 use Rattle.trace.specs.Values.{header_value}
 use Rattle.replay.proofs.Whole.{inside, ranged, few-steps, first-line, made-sound, last_line_lem, replayed}
@@ -31,7 +32,7 @@ put_end-requires c =
     let begun = c.put_params-start.ensures.ends in
     let last =
     last_line_lem bs f c.requires.0 _ c.write_fresh.ensures _ _ _ _ _ _ c.replay_steps-turn.ensures begun
-    _ _ c.clock-clock.ensures c.path-path.ensures in
+    _ _ c.clock-clock.ensures (c.from-path.ensures ∙ c.path.ensures) in
     omega (arith, last)
 
 pub returns : goal.returns
@@ -40,5 +41,5 @@ returns c =
     let f = header_value c.args.header in
     let begun = c.put_params-start.ensures.ends in
     replayed bs f c.requires.0 _ c.write_fresh.ensures _ _ _ _ _ _ c.replay_steps-turn.ensures begun
-    _ _ c.clock-clock.ensures c.path-path.ensures _ _ _ c.requires.2 (omega arith) c.put_params-start.ensures
+    _ _ c.clock-clock.ensures (c.from-path.ensures ∙ c.path.ensures) _ _ _ c.requires.2 (omega arith) c.put_params-start.ensures
     c.put_end.ensures

@@ -21,4 +21,4 @@ set_node-requires c =
 pub returns : goal.returns
 returns c =
     let-in Allocate c.args.words.now (step_value c.args.step) c.in_ok-ask.ensures c.requires.0 c.requires.1
-    (c.set_node.ensures, refl)
+    (rw c.into.ensures at c.set_node.ensures, refl)

@@ -33,4 +33,4 @@ returns c =
     let d = decode c.args.words.now in
     let s = step_value c.args.step in
     let-in Remove c.args.words.now (step_value c.args.step) c.in_ok-ask.ensures c.requires.0 c.requires.1
-    (c.set_node.ensures ∙ ap (λ n. encode (set_node d s.node (removing s.process n))) c.node-x.ensures, refl)
+    ((rw c.into.ensures at c.set_node.ensures) ∙ ap (λ n. encode (set_node d s.node (removing s.process n))) c.node-x.ensures, refl)
