@@ -57,4 +57,3 @@ module _ (d : Domain) (p : ℕ) {x : Lead} (ex : x ≡ lead_of (process_of d p))
 
     pub waits : caught_up d ≡ false → {ws : List ℕ} → ws ≡ encode d → Does (quiescent d p) ws 0
     waits b h = rw (here, b) (h, refl)
-

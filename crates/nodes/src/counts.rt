@@ -32,7 +32,11 @@ pub fn reachable_count(nodes: &[u32], m: u32) -> u32
     requires { Part m nodes.now }
     ensures { result ≡ count (λ n. eqb n.state Reachable) (nodes_in m nodes.now) }
 {
-    count_passing(m, 0, |c| crate::state_of(nodes, m, c) == u32::from(State::Reachable))
+    count_passing(
+        m,
+        0,
+        |c| crate::state_of(nodes, m, c) == u32::from(State::Reachable),
+    )
 }
 
 // Is node c a Retired node of p? State and owner are compared at once.

@@ -26,7 +26,7 @@ pub fn allocate(words: &mut [u32], step: Step) -> Result<u32, Refusal>
         Node {
             state: State::Allocated.into(),
             owner: step.process.0,
-            guest: step.guest,
+            guest: kinds::guest_read(step.kind, step.guest),
             retired: 0,
             limbo: 0,
         },

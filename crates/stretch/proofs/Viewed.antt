@@ -78,4 +78,3 @@ module _ {b : List Pending} {vs₀ : List ℕ} where
       → Overlaying b vs₀ (e + 1) (set vs h v)
   overlay-turn {e} {vs} o l h v p q =
       record { rest = rw (add-one, p, q) (ap (λ (c : List Pending). overlaid c vs) (sym (drop-cons b e no_store l)) ∙ o.rest) }
-

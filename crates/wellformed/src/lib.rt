@@ -42,7 +42,8 @@ fn head_fits(words: &[u32]) -> bool
         return false;
     }
     (words[head_word::CLOCK] <= most::CLOCK)
-        & ((words[head_word::PATH] <= u32::from(Path::Fallback)) & (words[head_word::EPOCH] <= most::EPOCH))
+        & ((words[head_word::PATH] <= u32::from(Path::Fallback))
+            & (words[head_word::EPOCH] <= most::EPOCH))
 }
 
 // How many nodes are Reachable, if it is asked, else 0; none unless the words are those of a well-formed domain. One function for both: with a
