@@ -33,17 +33,6 @@ pub enum Kind {
     Portion = 17,
 }
 
-// The numbers that are named where a step is not taken, but looked at.
-pub const ALLOCATE: u32 = Kind::Allocate as u32;
-
-pub const PUBLISH: u32 = Kind::Publish as u32;
-
-pub const REMOVE: u32 = Kind::Remove as u32;
-
-pub const REINSERT: u32 = Kind::Reinsert as u32;
-
-pub const PORTION: u32 = Kind::Portion as u32;
-
 impl TryFrom<u32> for Kind {
     type Error = Refusal;
 

@@ -16,6 +16,7 @@ ghost use Rattle.trace.specs.Widths.{step_size, most_steps};
 ghost use Rattle.replay.specs.Most.{most_step_line};
 ghost use Rattle.replay.specs.Turn.{count_after, Counted, Taken, Ran, Ready, Replayed};
 
+use kinds::Kind;
 use refusals::Refusal;
 use trace::Header;
 use trace::widths::step_byte;
@@ -36,9 +37,9 @@ fn counted(reachable: u32, kind: u32, answer: Result<u32, Refusal>) -> u32
     if answer.is_err() {
         return reachable;
     }
-    match kind {
-        kinds::PUBLISH | kinds::REINSERT => reachable + 1,
-        kinds::REMOVE => reachable - 1,
+    match Kind::try_from(kind) {
+        Ok(Kind::Publish | Kind::Reinsert) => reachable + 1,
+        Ok(Kind::Remove) => reachable - 1,
         _ => reachable,
     }
 }

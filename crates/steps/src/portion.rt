@@ -16,7 +16,7 @@ pub fn portion(words: &mut [u32], p: ProcessId, c: NodeId, limit: u32) -> Result
     ensures { Portions (portioned (decode words.old) p.0 c.0 limit) result words.new }
 {
     let step = Step {
-        kind: kinds::PORTION,
+        kind: Kind::Portion.into(),
         process: p,
         hazard: HazardId(0),
         node: c,
