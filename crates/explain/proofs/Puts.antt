@@ -1,4 +1,4 @@
--- Texts put into a buffer that are no longer than the most, a state's name, and a line at the start. Assumes nothing.
+-- Texts put into a buffer that are no longer than the most, and a line at the start. Assumes nothing.
 use Prim.Native.Nat.{ℕ, ◌+◌, ◌≤◌}
 use mathlib.Core.List.{List, [], ◌++◌}
 use mathlib.Core.Logic.{◌≢◌}
@@ -9,7 +9,7 @@ use borrow.Author.Tests.{ne_eqb}
 use Rattle.model.specs.Why.{Explained}
 use Rattle.text.specs.Text.{bytes, Put}
 use Rattle.text.proofs.Digits.{put_then, put-take}
-use Rattle.explain.specs.Sentence.{state_text, ticks_text, sentence, most_line, PutUpto, Said}
+use Rattle.explain.specs.Sentence.{ticks_text, sentence, most_line, PutUpto, Said}
 
 pub exactly : {page us page₁ : List ℕ} {at m at₁ : ℕ} → Put page at us m page₁ at₁ → PutUpto m page at us page₁ at₁
 exactly p =
@@ -31,10 +31,6 @@ module _ {page us page₁ : List ℕ} {at m at₁ : ℕ} (p : PutUpto m page at 
 
 pub nothing : (page : List ℕ) (at : ℕ) → Put page at [] 0 page at
 nothing page at = record { bytes = refl; long = refl; ends = omega arith }
-
--- the name of a state that is none of the first three
-pub removed : (s : ℕ) → s ≢ 0 → s ≢ 1 → s ≢ 2 → bytes "Removed" ≡ state_text s
-removed s a b c = rw (ne_eqb s 0 a, ne_eqb s 1 b, ne_eqb s 2 c)
 
 pub several : (t : ℕ) → t ≢ 1 → bytes "ticks" ≡ ticks_text t
 several t h = rw (ne_eqb t 1 h)

@@ -1,5 +1,6 @@
 // The line that the program `why` prints, in the paper's words.
 ghost use Rattle.std.specs.Prelude.{◌+◌, ◌≤◌, length};
+ghost use Rattle.layout.specs.Values.{state_number};
 ghost use Rattle.text.specs.Text.{number_text};
 ghost use Rattle.waiting.specs.Values.{reason_value, behind_value, why_value, explained_value};
 ghost use Rattle.explain.specs.Sentence.{state_text, ticks_text, young_text, visible_text, reason_text, lagging_text, behind_text, why_text};
@@ -19,22 +20,16 @@ fn put_number(out: &mut [u8], at: usize, n: u32, after: u8) -> usize
     text::put_number(out, at, n, after)
 }
 
-const FREE: u32 = State::Free as u32;
-
-const ALLOCATED: u32 = State::Allocated as u32;
-
-const REACHABLE: u32 = State::Reachable as u32;
-
 // The name of a state that is not Retired.
-fn put_state(out: &mut [u8], at: usize, state: u32) -> usize
+fn put_state(out: &mut [u8], at: usize, state: State) -> usize
     requires { at + most_state ≤ length out.old }
-    ensures { PutUpto most_state out.old at (state_text state) out.new result }
+    ensures { PutUpto most_state out.old at (state_text (state_number state)) out.new result }
 {
     match state {
-        FREE => text::put_bytes(out, at, b"Free"),
-        ALLOCATED => text::put_bytes(out, at, b"Allocated"),
-        REACHABLE => text::put_bytes(out, at, b"Reachable"),
-        _ => text::put_bytes(out, at, b"Removed"),
+        State::Free => text::put_bytes(out, at, b"Free"),
+        State::Allocated => text::put_bytes(out, at, b"Allocated"),
+        State::Reachable => text::put_bytes(out, at, b"Reachable"),
+        State::Removed | State::Retired => text::put_bytes(out, at, b"Removed"),
     }
 }
 

@@ -178,7 +178,7 @@ impl From<Reason> for Why {
         match reason {
             Reason::NotRetired(state) => Why {
                 answer: 1,
-                state,
+                state: state.into(),
                 ..NOTHING
             },
             Reason::Young(ticks) => Why {

@@ -1,6 +1,7 @@
 -- The rules' answer for each value of the code. Assumes nothing.
 use Rattle.std.specs.Prelude.{Result, Ok, Err}
 use Rattle.model.specs.Why as M
+use Rattle.layout.specs.Values.{state_number}
 use Rattle.refusals.specs.declared.Refusal.{Refusal}
 use Rattle.refusals.specs.Numbers.{number}
 use Rattle.waiting.specs.declared.Reason.{Reason}
@@ -10,7 +11,7 @@ use Rattle.waiting.specs.declared.Behind.TheVariants.{NotAsked, Nobody, Lagging}
 use Rattle.waiting.specs.declared.Why.{Why}
 
 abbrev pub reason_value : Reason → M.Reason
-reason_value (NotRetired s) = M.NotRetired s
+reason_value (NotRetired s) = M.NotRetired (state_number s)
 reason_value (Young t) = M.Young t
 reason_value (Visible q h) = M.Visible q.0 h.0
 reason_value Ready = M.Ready

@@ -2,11 +2,11 @@
 #![tactic(auto)]
 
 ghost use Rattle.std.specs.Prelude.{◌≡◌, suc, ◌<◌, ◌≤◌};
-ghost use Rattle.model.specs.State.{node_of};
+ghost use Rattle.model.specs.State.{node_of, Retired};
 ghost use Rattle.model.specs.Why.{ticks_left, seen_by, reason_of, behind_in, explained};
 ghost use Rattle.layout.specs.Encode.{decode, params_in};
 ghost use Rattle.layout.specs.Sound.{Sound};
-ghost use Rattle.layout.specs.Values.{node_value};
+ghost use Rattle.layout.specs.Values.{node_value, state_number};
 ghost use Rattle.waiting.specs.Values.{reason_value, behind_value, explained_value};
 
 use layout::{HazardId, Node, NodeId, Path, ProcessId, State};
@@ -16,7 +16,7 @@ use refusals::Refusal;
 #[derive(Clone, Copy)]
 pub enum Reason {
     // Its state.
-    NotRetired(u32),
+    NotRetired(State),
     // The ticks until a scan could free it.
     Young(u32),
     // The lowest process, and then its lowest hazard, that shows it to its owner.
@@ -64,6 +64,20 @@ fn seen(words: &[u32], p: ProcessId, c: NodeId) -> Reason
     }
 }
 
+// The state with this number.
+fn state_of(number: u32) -> State
+    requires { number ≤ Retired }
+    ensures { state_number result ≡ number }
+{
+    match number {
+        0 => State::Free,
+        1 => State::Allocated,
+        2 => State::Reachable,
+        3 => State::Removed,
+        _ => State::Retired,
+    }
+}
+
 // Why node c is still waiting.
 fn reason_of(words: &[u32], c: NodeId) -> Reason
     requires { Sound words.now × (c.0 < (params_in words.now).nodes) }
@@ -71,7 +85,7 @@ fn reason_of(words: &[u32], c: NodeId) -> Reason
 {
     let node = domain::node(words, c);
     if node.state != u32::from(State::Retired) {
-        return Reason::NotRetired(node.state);
+        return Reason::NotRetired(state_of(node.state));
     }
     let left = ticks_left(words, node);
     if 0 < left {

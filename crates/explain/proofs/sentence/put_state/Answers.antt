@@ -1,24 +1,30 @@
 -- `explain::sentence::put_state` meets its contract: a name for each state. Assumes nothing.
-use Prim.Native.Nat.{ℕ}
+use mathlib.Core.Logic.{◌⊎◌, inl, inr}
 use mathlib.Core.Path.{◌≡◌, sym, ap}
 use native.Mathlib.Omega.{arith}
+use Rattle.layout.specs.Values.{state_number}
+use Rattle.layout.specs.declared.State.{State}
+use Rattle.layout.specs.declared.State.TheVariants.{Removed, Retired}
 use Rattle.explain.specs.Sentence.{state_text}
-use Rattle.explain.proofs.Puts.{exactly, as-text, removed}
+use Rattle.explain.proofs.Puts.{exactly, as-text}
 use Rattle.explain.proofs.sentence.put_state.Goals as goal
 
-named : {s n : ℕ} → s ≡ n → state_text n ≡ state_text s
-named e = sym (ap state_text e)
+named : {s t : State} → s ≡ t → state_text (state_number t) ≡ state_text (state_number s)
+named e = sym (ap (λ s. state_text (state_number s)) e)
 
-pub returns-in-0 : goal.returns-in-0
-returns-in-0 c = as-text (exactly c.put_bytes.ensures) (named c.in-0.is) (omega arith)
+-- Retired has the last name too
+named_last : {s : State} → (s ≡ Removed) ⊎ (s ≡ Retired) → state_text (state_number Removed) ≡ state_text (state_number s)
+named_last (inl e) = named e
+named_last (inr e) = named e
 
-pub returns-in-1 : goal.returns-in-1
-returns-in-1 c = as-text (exactly c.put_bytes-in-1.ensures) (named c.in-1.is) (omega arith)
+pub returns-in-Free : goal.returns-in-Free
+returns-in-Free c = as-text (exactly c.put_bytes.ensures) (named c.in-Free.is) (omega arith)
 
-pub returns-in-2 : goal.returns-in-2
-returns-in-2 c = as-text (exactly c.put_bytes-in-2.ensures) (named c.in-2.is) (omega arith)
+pub returns-in-Allocated : goal.returns-in-Allocated
+returns-in-Allocated c = as-text (exactly c.put_bytes-in-Allocated.ensures) (named c.in-Allocated.is) (omega arith)
 
-pub returns-in_default : goal.returns-in_default
-returns-in_default c =
-    let state = c.args.state in
-    as-text (exactly c.put_bytes-in_default.ensures) (removed state (λ h. omega arith) (λ h. omega arith) (λ h. omega arith)) (omega arith)
+pub returns-in-Reachable : goal.returns-in-Reachable
+returns-in-Reachable c = as-text (exactly c.put_bytes-in-Reachable.ensures) (named c.in-Reachable.is) (omega arith)
+
+pub returns-in-Removed : goal.returns-in-Removed
+returns-in-Removed c = as-text (exactly c.put_bytes-in-Removed.ensures) (named_last c.in-Removed.is) (omega arith)
