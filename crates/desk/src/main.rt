@@ -3,7 +3,7 @@
 // terminal as standard input, it says how it is called.
 #![tactic(auto)]
 
-ghost use Rattle.std.specs.Prelude.{◌≤◌, length, take};
+ghost use Rattle.std.specs.Prelude.{◌≤◌, length};
 ghost use Rattle.print.specs.Printed.{print_room, Prints};
 ghost use Rattle.desk.specs.Sizes.{most_read};
 ghost use Rattle.desk.specs.Written.{IsPrint};
@@ -17,43 +17,42 @@ fn complain(rt: &impl Eprint, text: &str) {
     let _done = rt.eprint(text);
 }
 
-// The print of the first n bytes.
-fn print_start(book: &[u8], n: usize, out: &mut [u8]) -> usize
-    requires { (n ≤ length book.now) × (print_room n ≤ length out.old) }
-    ensures { Prints (take n book.now) out.new result × (result ≤ print_room n) }
+// The print of a book, at the start of the buffer.
+fn print_of<'a>(book: &[u8], out: &'a mut [u8]) -> &'a [u8]
+    requires { print_room (length book.now) ≤ length out.old }
+    ensures { Prints book.now result.now (length result.now) }
 {
-    print::print_book(&book[0..n], out)
+    let size = print::print_book(book, out);
+    &out[..size]
 }
 
-// Writes a print, the first n bytes, and answers whether it was written.
-fn write_print(rt: &impl Print, out: &[u8], n: usize) -> bool
-    requires { IsPrint out.now n }
+// Writes a print and answers whether it was written.
+fn write_print(rt: &impl Print, print: &[u8]) -> bool
+    requires { IsPrint print.now (length print.now) }
 {
-    rt.write_all(&out[0..n]).is_ok()
+    rt.write_all(print).is_ok()
 }
 
-// Prints the first n bytes by a buffer of N; a write that fails is told. Never a part of its caller: the pages of a frame are touched as it is
-// entered, and a short book does without those of the long buffer.
+// Prints a book by a buffer of N; a write that fails is told. Never a part of its caller: the pages of a frame are touched as it is entered,
+// and a short book does without those of the long buffer.
 #[inline(never)]
-fn print_by<const N: usize>(rt: &(impl Print + Eprint), book: &[u8], n: usize)
-    requires { (n ≤ length book.now) × (print_room n ≤ N) × (N ≤ print_room most_read) }
+fn print_by<const N: usize>(rt: &(impl Print + Eprint), book: &[u8])
+    requires { (print_room (length book.now) ≤ N) × (N ≤ print_room most_read) }
 {
     let mut space = [0u8; N];
-    let out: &mut [u8] = &mut space;
-    let size = print_start(book, n, out);
-    if !write_print(rt, out, size) {
+    if !write_print(rt, print_of(book, &mut space)) {
         complain(rt, "desk: cannot write standard output\n");
     }
 }
 
-// Prints the first n bytes.
-fn print_input(rt: &(impl Print + Eprint), book: &[u8], n: usize)
-    requires { (n ≤ length book.now) × (n ≤ most_read) }
+// Prints a book.
+fn print_input(rt: &(impl Print + Eprint), book: &[u8])
+    requires { length book.now ≤ most_read }
 {
-    if n <= rooms::SHORT_BOOK {
-        print_by::<{ rooms::SHORT_PRINT }>(rt, book, n);
+    if book.len() <= rooms::SHORT_BOOK {
+        print_by::<{ rooms::SHORT_PRINT }>(rt, book);
     } else {
-        print_by::<{ rooms::PRINT }>(rt, book, n);
+        print_by::<{ rooms::PRINT }>(rt, book);
     }
 }
 
@@ -61,7 +60,7 @@ fn print_input(rt: &(impl Print + Eprint), book: &[u8], n: usize)
 fn read_and_print(rt: &(impl Print + Eprint), reader: &mut impl Read) {
     let mut book = [0u8; most::READ];
     match input::read_all(reader, &mut book) {
-        Ok(Input::Whole(n) | Input::Full(n)) => print_input(rt, &book, n),
+        Ok(Input::Whole(n) | Input::Full(n)) => print_input(rt, &book[..n]),
         Err(_) => complain(rt, "desk: cannot read standard input\n"),
     }
 }

@@ -3,9 +3,8 @@
 // the reading and the writing are the system's. Called otherwise, or with a terminal as standard input, it says how it is called.
 #![tactic(auto)]
 
-ghost use Rattle.std.specs.Prelude.{◌≡◌, ◌≤◌, length, take};
+ghost use Rattle.std.specs.Prelude.{◌≤◌, length};
 ghost use Rattle.explain.specs.Sentence.{most_line};
-ghost use Rattle.explain.specs.Number.{number_in};
 ghost use Rattle.explain.specs.Explains.{Says};
 ghost use Rattle.why.specs.Written.{IsGiven, IsNumber, IsLine};
 
@@ -19,37 +18,28 @@ fn complain(rt: &impl Eprint, text: &str) {
     let _done = rt.eprint(text);
 }
 
-// The number that the first n bytes of an argument are.
-fn number_of(arg: &[u8], n: usize) -> Option<u32>
-    requires { n ≤ length arg.now }
-    ensures { result ≡ number_in (take n arg.now) }
+// The line of a card and a book, at the start of the buffer.
+fn line_of<'a>(card: u32, book: &[u8], out: &'a mut [u8]) -> &'a [u8]
+    requires { most_line ≤ length out.old }
+    ensures { Says card book.now result.now (length result.now) }
 {
-    number::read(&arg[0..n])
+    let size = explain::explain(card, book, out);
+    &out[..size]
 }
 
-// The line of a card and the first n bytes.
-fn explain_start(card: u32, book: &[u8], n: usize, out: &mut [u8]) -> usize
-    requires { (n ≤ length book.now) × (most_line ≤ length out.old) }
-    ensures { Says card (take n book.now) out.new result }
+// Writes a line and answers whether it was written.
+fn write_line(rt: &impl Print, line: &[u8]) -> bool
+    requires { IsLine line.now (length line.now) }
 {
-    explain::explain(card, &book[0..n], out)
+    rt.write_all(line).is_ok()
 }
 
-// Writes a line, the first n bytes, and answers whether it was written.
-fn write_line(rt: &impl Print, out: &[u8], n: usize) -> bool
-    requires { IsLine out.now n }
-{
-    rt.write_all(&out[0..n]).is_ok()
-}
-
-// Writes the line of a card and the first n bytes; a write that fails is told.
-fn answer(rt: &(impl Print + Eprint), card: u32, book: &[u8], n: usize)
-    requires { (n ≤ length book.now) × IsNumber card }
+// Writes the line of a card and a book; a write that fails is told.
+fn answer(rt: &(impl Print + Eprint), card: u32, book: &[u8])
+    requires { IsNumber card }
 {
     let mut space = [0u8; explain::LINE];
-    let out: &mut [u8] = &mut space;
-    let size = explain_start(card, book, n, out);
-    if !write_line(rt, out, size) {
+    if !write_line(rt, line_of(card, book, &mut space)) {
         complain(rt, "why: cannot write standard output\n");
     }
 }
@@ -60,7 +50,7 @@ fn read_and_answer(rt: &(impl Print + Eprint), reader: &mut impl Read, card: u32
 {
     let mut book = [0u8; most::READ];
     match input::read_all(reader, &mut book) {
-        Ok(Input::Whole(n) | Input::Full(n)) => answer(rt, card, &book, n),
+        Ok(Input::Whole(n) | Input::Full(n)) => answer(rt, card, &book[..n]),
         Err(_) => complain(rt, "why: cannot read standard input\n"),
     }
 }
@@ -74,7 +64,7 @@ fn asked(env: &impl Env, stdin: &impl IsTerminal) -> Option<u32>
     }
     let mut arg = [0u8; number::DIGITS];
     match env.arg(1, &mut arg) {
-        Ok(n) => number_of(&arg, n),
+        Ok(n) => number::read(&arg[..n]),
         Err(_) => None,
     }
 }
