@@ -18,7 +18,7 @@ fn complain(rt: &impl Eprint, text: &str) {
     let _done = rt.eprint(text);
 }
 
-// The line of a card and a book, at the start of the buffer.
+// The line of a card and of what was read, at the start of the buffer.
 fn line_of<'a>(card: u32, book: &[u8], out: &'a mut [u8]) -> &'a [u8]
     requires { most_line ≤ length out.old }
     ensures { Says card book.now result.now (length result.now) }
@@ -34,7 +34,7 @@ fn write_line(rt: &impl Print, line: &[u8]) -> bool
     rt.write_all(line).is_ok()
 }
 
-// Writes the line of a card and a book; a write that fails is told.
+// Writes the line of a card and of what was read; a write that fails is told.
 fn answer(rt: &(impl Print + Eprint), card: u32, book: &[u8])
     requires { IsNumber card }
 {
@@ -63,10 +63,8 @@ fn asked(env: &impl Env, stdin: &impl IsTerminal) -> Option<u32>
         return None;
     }
     let mut arg = [0u8; number::DIGITS];
-    match env.arg(1, &mut arg) {
-        Ok(n) => number::read(&arg[..n]),
-        Err(_) => None,
-    }
+    let n = env.arg(1, &mut arg).ok()?;
+    number::read(&arg[..n])
 }
 
 fn main(rt: HostRuntime) {
