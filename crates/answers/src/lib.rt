@@ -1,4 +1,4 @@
-// What a call answers in two numbers: to a host, and in a run. A crate of its own, since nothing can stand on a static library, and two answer it.
+// What a call answers in two numbers: to a host, and in a run. A crate of its own, since nothing can stand on a static library, and two of these answer it.
 #![tactic(auto)]
 
 ghost use Rattle.std.specs.Prelude.{◌≡◌};

@@ -77,11 +77,11 @@ pub fn set_clock(words: &mut [u32], v: u32)
     words[head_word::CLOCK] = v;
 }
 
-pub fn set_path(words: &mut [u32], path: Path)
+pub fn set_path(words: &mut [u32], v: u32)
     requires { Sound words.old }
-    ensures { words.new ≡ changed (λ d. with_path d (path_number path)) words.old }
+    ensures { words.new ≡ changed (λ d. with_path d v) words.old }
 {
-    words[head_word::PATH] = path.into();
+    words[head_word::PATH] = v;
 }
 
 pub fn set_epoch(words: &mut [u32], v: u32)

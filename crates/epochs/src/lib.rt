@@ -55,7 +55,7 @@ fn managing(words: &mut [u32], p: ProcessId) -> u32
     if !domain::processes::all_checked_in(words) {
         return 0;
     }
-    domain::set_path(words, Path::Fast);
+    domain::set_path(words, Path::Fast.into());
     quiescent(words, p)
 }
 

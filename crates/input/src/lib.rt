@@ -16,8 +16,8 @@ pub enum Input {
     Full(usize),
 }
 
-// Reads until buf is full, the input ends, or a read fails. The count is never more than the buffer holds; which bytes were read is not
-// stated, since no contract says what a read leaves.
+// Reads until buf is full, the input ends, or a read fails. The count is never more than the buffer holds; that so many bytes were read,
+// and which, is not stated, since no contract says what a read leaves.
 pub fn read_all(reader: &mut impl Read, buf: &mut [u8]) -> io::Result<Input>
     ensures { read_count result ≤ length buf.new }
 {

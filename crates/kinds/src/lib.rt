@@ -129,7 +129,7 @@ impl Row {
 }
 
 impl Kind {
-    // As the kind is a variant that is known the table folds away: where it is not, it is laid out anew at each use, which takes longer than a
+    // Where the kind is a variant that is known the table folds away: where it is not, it is laid out anew at each use, which takes longer than a
     // step.
     pub fn row(self) -> Row
         ensures { result ≡ row_code (kind_value self) }

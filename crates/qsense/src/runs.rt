@@ -10,8 +10,8 @@ use layout::words::{answer_word, step_word};
 use layout::{HazardId, NodeId, ProcessId, Step};
 use refusals::Refusal;
 
-// One step, on words of which it is known whether they are those of a well-formed domain. Folded into its callers, and the dispatch into it: as a
-// call it would bring the two numbers of the answer back through memory.
+// One step, on words of which it is known whether they are those of a well-formed domain. Folded into its callers: as a
+// call it would be given the step through memory.
 #[inline(always)]
 pub fn step_checked(words: &mut [u32], good: bool, step: Step) -> Result<u32, Refusal>
     requires { good ≡ well_formed words.old }

@@ -1,6 +1,7 @@
-// The questions before a step, numbers 4 to 17 and 20 to 23 in the papers' order: a step is refused by the first with the answer no.
+// The questions before a step, numbers 5 to 17 and 20 to 23 in the papers' order: a step is refused by the first with the answer no. (4 is whether
+// its number makes a kind.)
 // A question that a kind is not asked has the answer yes and reads nothing, so that with the kind as a literal only its own are left. The list
-// and the longest questions are marked, to be folded into each kind's arm of the dispatch; the others are without a mark.
+// and the three longest questions are marked, to be folded into each kind's arm of the dispatch; the others are without a mark.
 #![tactic(auto)]
 
 pub mod read;

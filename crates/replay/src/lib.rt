@@ -16,6 +16,7 @@ ghost use Rattle.trace.specs.Widths.{step_size, most_steps};
 ghost use Rattle.replay.specs.Most.{most_step_line};
 ghost use Rattle.replay.specs.Turn.{count_after, Counted, Taken, Ran, Ready, Replayed};
 
+use answers::Answer;
 use kinds::Kind;
 use refusals::Refusal;
 use trace::Header;
@@ -44,16 +45,6 @@ fn counted(reachable: u32, kind: u32, answer: Result<u32, Refusal>) -> u32
     }
 }
 
-// The refusal and the value as a line has them: 0 where there is none.
-fn numbers(answer: Result<u32, Refusal>) -> (u32, u32)
-    ensures { (result.0 ≡ refusal_in answer) × (result.1 ≡ value_in answer) }
-{
-    match answer {
-        Ok(value) => (0, value),
-        Err(refusal) => (u32::from(refusal), 0),
-    }
-}
-
 // Takes the step that stands in the bytes from `from` on, the i-th, and puts its line into the print from `at` on.
 fn replay_step(
     words: &mut [u32],
@@ -68,10 +59,10 @@ fn replay_step(
     ensures { Taken (step_at bytes.now from) i at words.old out.old words.new out.new result }
 {
     let step = trace::step_at(bytes, from);
-    let answer = steps::take_step(words, step);
-    let after = counted(reachable, step.kind, answer);
-    let (refusal, value) = numbers(answer);
-    let end = text::put_step(out, at, i, step.kind, refusal, value, after);
+    let taken = steps::take_step(words, step);
+    let after = counted(reachable, step.kind, taken);
+    let answer = Answer::from(taken);
+    let end = text::put_step(out, at, i, step.kind, answer.refusal, answer.value, after);
     Turn {
         at: end,
         reachable: after,

@@ -21,7 +21,7 @@ fn fall_back(words: &mut [u32])
     requires { Sound words.old }
     ensures { words.new ≡ encode (fall_back (decode words.old)) }
 {
-    domain::set_path(words, Path::Fallback);
+    domain::set_path(words, Path::Fallback.into());
     domain::processes::clear_presence(words);
 }
 

@@ -1,6 +1,5 @@
 // A step on words that are known to be sound: one dispatch over the kind. What a kind does is a function that asks the questions with that kind as
-// a literal, of which only its own are left, and then does it. All are to be folded into the caller of the dispatch: as a call each would bring
-// its answer back through memory.
+// a literal, of which only its own are left, and then does it. All but the portion are to be folded into the dispatch, and that into its caller.
 #![tactic(auto)]
 
 mod attendance;
