@@ -60,7 +60,7 @@ fn print_input(rt: &(impl Print + Eprint), book: &[u8])
 fn read_and_print(rt: &(impl Print + Eprint), reader: &mut impl Read) {
     let mut book = [0u8; most::READ];
     match input::read_all(reader, &mut book) {
-        Ok(Input::Whole(n) | Input::Full(n)) => print_input(rt, &book[..n]),
+        Ok(Input::Whole(n) | Input::Full(n)) => print_input(rt, input::start(&book, n)),
         Err(_) => complain(rt, "desk: cannot read standard input\n"),
     }
 }

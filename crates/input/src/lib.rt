@@ -2,7 +2,7 @@
 // argument. What the bytes are is outside of any contract: the system's read says it.
 #![tactic(auto)]
 
-ghost use Rattle.std.specs.Prelude.{◌≤◌, length};
+ghost use Rattle.std.specs.Prelude.{◌≡◌, ◌≤◌, length, take};
 ghost use Rattle.input.specs.Count.{read_count};
 
 use std::env::{Env, FillError};
@@ -30,6 +30,14 @@ pub fn read_all(reader: &mut impl Read, buf: &mut [u8]) -> io::Result<Input>
         done += count;
     }
     Ok(Input::Full(done))
+}
+
+// What was read: the first n bytes of the buffer.
+pub fn start(buf: &[u8], n: usize) -> &[u8]
+    requires { n ≤ length buf.now }
+    ensures { result.now ≡ take n buf.now }
+{
+    &buf[..n]
 }
 
 // Whether what would be read is typed at a terminal: a person has called the program without a file.

@@ -2,7 +2,7 @@
 // top bit turned, as a vector compares it: it need not be turned again for each word.
 #![tactic(auto)]
 
-ghost use Rattle.std.specs.Prelude.{◌≡◌, ◌+◌, ◌≤◌, not, ◌&&◌, length};
+ghost use Rattle.std.specs.Prelude.{◌≡◌, ◌+◌, ◌≤◌, true, not, ◌&&◌, length};
 ghost use Rattle.limits.specs.Limits.{none, turned, within, in_row};
 
 // Whether a word was over its limit, by the word's place in its piece of four, and whether anything else was amiss.
@@ -70,6 +70,14 @@ impl Faults {
             turned(limits[from + 3]),
         )
     }
+}
+
+// No fault yet: what the constant is, by itself.
+#[tactic(auto, unfolding(crate::specs::Limits::none))]
+pub fn no_faults() -> Faults
+    ensures { none result ≡ true }
+{
+    Faults::NONE
 }
 
 // A number with its top bit turned: a limit as it is kept, and as it was.

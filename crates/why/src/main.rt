@@ -50,7 +50,7 @@ fn read_and_answer(rt: &(impl Print + Eprint), reader: &mut impl Read, card: u32
 {
     let mut book = [0u8; most::READ];
     match input::read_all(reader, &mut book) {
-        Ok(Input::Whole(n) | Input::Full(n)) => answer(rt, card, &book[..n]),
+        Ok(Input::Whole(n) | Input::Full(n)) => answer(rt, card, input::start(&book, n)),
         Err(_) => complain(rt, "why: cannot read standard input\n"),
     }
 }
@@ -64,7 +64,7 @@ fn asked(env: &impl Env, stdin: &impl IsTerminal) -> Option<u32>
     }
     let mut arg = [0u8; number::DIGITS];
     let n = env.arg(1, &mut arg).ok()?;
-    number::read(&arg[..n])
+    number::read(input::start(&arg, n))
 }
 
 fn main(rt: HostRuntime) {
