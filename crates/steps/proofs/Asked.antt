@@ -6,7 +6,7 @@ use mathlib.Core.Path.{◌≡◌, refl, sym, ap, ◌∙◌}
 use borrow.Author.Tests.{ne_eqb}
 use Rattle.std.specs.Prelude.{Result, Ok, Err}
 use Rattle.refusals.specs.declared.Refusal.{Refusal}
-use Rattle.refusals.specs.Numbers.{number}
+use Rattle.refusals.specs.Numbers.{number, value_in}
 use Rattle.refusals.proofs.Numbers.{some-number}
 use Rattle.model.specs.State.{Step}
 use Rattle.model.specs.Kinds.{Kind, kind_of, means, row_of, ProcessId, HazardId, NodeId}
@@ -14,7 +14,7 @@ use Rattle.model.specs.Questions.{refusal_of}
 use Rattle.model.specs.Machine.{act, step}
 use Rattle.model.proofs.Walk.{Asked, asked}
 use Rattle.model.proofs.WellFormed.{keep-act}
-use Rattle.layout.specs.Encode.{decode, decode_by, params_in}
+use Rattle.layout.specs.Encode.{encode, decode, decode_by, params_in}
 use Rattle.layout.specs.Sound.{Sound}
 use Rattle.layout.proofs.Sound.{sound-at}
 use Rattle.domain.specs.Effects.{Does}
@@ -54,3 +54,11 @@ module _ (k : Kind) (ws : List ℕ) (s : Step) where
     let-in sound is d =
         rw (is, ← e)
         (record { refusal = refl; value = d.1; words = d.0; sound = sound-at d.0 (keep-act k (decode ws) s sound.domain facts) })
+
+    -- and the other way: a step that is let in leaves, and answers for its value, what its kind does
+    pub acted : kind_of s.kind ≡ k → {r : Result ℕ Refusal} {ws' : List ℕ} → SteppedTo ws s r ws' → Does (act k (decode ws) s) ws' (value_in r)
+    unfolding step
+    acted is t =
+        let after : encode (step (decode ws) s).after ≡ encode (act k (decode ws) s).after = rw (is, ← e) refl in
+        let value : (step (decode ws) s).value ≡ (act k (decode ws) s).value = rw (is, ← e) refl in
+        (t.words ∙ after, t.value ∙ value)
