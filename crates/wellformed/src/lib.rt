@@ -13,7 +13,7 @@ use layout::Path;
 use layout::fresh::up_to;
 use layout::words::{head_word, most};
 
-// Whether the head's words are in their ranges. Word by word, each with a way out: taken together they are made into a vector, and the
+// Whether the head's words are in their ranges. Word by word, the first six with a way out: all taken together they are made into a vector, and the
 // vector unit is what the rest of the check waits for.
 #[tactic(auto, unfolding(layout::specs::Words::head_fits))]
 fn head_fits(words: &[u32]) -> bool
@@ -38,16 +38,15 @@ fn head_fits(words: &[u32]) -> bool
     if !up_to(most::FALLBACK, words[head_word::FALLBACK]) {
         return false;
     }
-    if most::LATENESS < words[head_word::LATENESS] {
-        return false;
-    }
-    (words[head_word::CLOCK] <= most::CLOCK)
-        & ((words[head_word::PATH] <= u32::from(Path::Fallback))
-            & (words[head_word::EPOCH] <= most::EPOCH))
+    (words[head_word::LATENESS] <= most::LATENESS)
+        & ((words[head_word::CLOCK] <= most::CLOCK)
+            & ((words[head_word::PATH] <= u32::from(Path::Fallback))
+                & (words[head_word::EPOCH] <= most::EPOCH)))
 }
 
 // How many nodes are Reachable, if it is asked, else 0; none unless the words are those of a well-formed domain. One function for both: with a
-// function for each, the processes' check would be folded into neither (docs/DECISIONS.md 112).
+// function for each, the processes' check would be folded into neither (docs/DECISIONS.md 112). Where the limits are laid out, and how many words of the head
+// have a way out of their own, puts the loops over the nodes where none of their jumps lies across 32 bytes, wherever the library is linked (185 there).
 fn checked(words: &[u32], counting: bool) -> Option<u32>
     ensures { result ≡ counted_in counting words.now }
 {
@@ -60,10 +59,10 @@ fn checked(words: &[u32], counting: bool) -> Option<u32>
     let n = words[head_word::PROCESSES];
     let m = words[head_word::NODES];
     let a = layout::process_start(words[head_word::HAZARDS], n);
+    let limits = nodes::fits::node_limits(n - 1, words[head_word::CLOCK]);
     if words.len() != a + layout::nodes_width(m) {
         return None;
     }
-    let limits = nodes::fits::node_limits(n - 1, words[head_word::CLOCK]);
     let faults = processes::processes_faults(words);
     nodes::pass::go_over(faults, &words[a..], m, &limits, counting)
 }
