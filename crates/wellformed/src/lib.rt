@@ -46,7 +46,7 @@ fn head_fits(words: &[u32]) -> bool
 
 // How many nodes are Reachable, if it is asked, else 0; none unless the words are those of a well-formed domain. One function for both: with a
 // function for each, the processes' check would be folded into neither (docs/DECISIONS.md 112). Where the limits are laid out, and how many words of the head
-// have a way out of their own, puts the loops over the nodes where none of their jumps lies across 32 bytes, wherever the library is linked (185 there).
+// have a way out of their own, put the loops over the nodes where none of their jumps lies across 32 bytes, in the archive for hosts as today's toolchain makes it (185 there).
 fn checked(words: &[u32], counting: bool) -> Option<u32>
     ensures { result ≡ counted_in counting words.now }
 {
